@@ -1,0 +1,20 @@
+-- A window of bytes, through which a field is read and written. Only this crate's own functions speak of it.
+use mathlib.Core.List.{List}
+use Prim.Native.Nat.{ℕ, zero, suc, _+_, _*_, _/_, _%_, _^_, _≤_}
+use lib.ListN.{getD, set}
+
+-- the n bytes from i on as a number, the lowest first
+unfoldable pub little : List ℕ → ℕ → ℕ → ℕ
+little bs i zero = 0
+little bs i (suc n) = getD bs i 0 + 256 * little bs (i + 1) n
+
+-- the n bytes from i on set to the number v, the lowest first
+unfoldable pub putLittle : List ℕ → ℕ → ℕ → ℕ → List ℕ
+putLittle bs i zero v = bs
+putLittle bs i (suc n) v = putLittle (set bs i (v % 256)) (i + 1) n (v / 256)
+
+-- the window of four bytes from byte i on lies inside, and holds each field from bit s on of up to 25 bits
+pub record Window (len s i : ℕ) : Type 0 where
+  pub inside : i + 4 ≤ len
+  pub low : 8 * i ≤ s
+  pub high : (w : ℕ) → w ≤ 25 → s + w ≤ 8 * len → s + w ≤ 8 * i + 32

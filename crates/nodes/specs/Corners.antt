@@ -1,0 +1,63 @@
+-- A node's corners, by "Corners": three points of two coordinates, in the order A, B, C.
+use mathlib.Core.List.{List, [], _∷_}
+use Prim.Native.Nat.{ℕ, zero, suc, _+_, _/_, _%_}
+use lib.ListN.{getD}
+use Rattle.nodes.specs.Depth.{depthOf}
+
+abbrev pub Point : Type 0
+Point = List ℕ
+
+abbrev pub Triangle : Type 0
+Triangle = List Point
+
+abbrev pub cornerA : Triangle → Point
+cornerA t = getD t 0 []
+
+abbrev pub cornerB : Triangle → Point
+cornerB t = getD t 1 []
+
+abbrev pub cornerC : Triangle → Point
+cornerC t = getD t 2 []
+
+abbrev pub px : Point → ℕ
+px p = getD p 0 0
+
+abbrev pub py : Point → ℕ
+py p = getD p 1 0
+
+abbrev pub point : ℕ → ℕ → Point
+point x y = x ∷ y ∷ []
+
+abbrev pub triangle : Point → Point → Point → Triangle
+triangle a b c = a ∷ b ∷ c ∷ []
+
+-- node 2 is A(0,256), B(0,0), C(256,0); node 3 is A(256,0), B(256,256), C(0,256)
+abbrev pub firstTriangle : ℕ → Triangle
+firstTriangle zero = triangle (point 0 256) (point 0 0) (point 256 0)
+firstTriangle (suc b) = triangle (point 256 0) (point 256 256) (point 0 256)
+
+abbrev pub midpoint : Point → Point → Point
+midpoint a c = point ((px a + px c) / 2) ((py a + py c) / 2)
+
+-- the left child is (A, M, B), M the midpoint of the long side A-C
+abbrev pub leftTriangle : Triangle → Triangle
+leftTriangle t = triangle (cornerA t) (midpoint (cornerA t) (cornerC t)) (cornerB t)
+
+-- the right child is (B, M, C)
+abbrev pub rightTriangle : Triangle → Triangle
+rightTriangle t = triangle (cornerB t) (midpoint (cornerA t) (cornerC t)) (cornerC t)
+
+-- the left child where the last digit is 0, and else the right child
+abbrev pub childTriangle : ℕ → Triangle → Triangle
+childTriangle zero t = leftTriangle t
+childTriangle (suc b) t = rightTriangle t
+
+-- the corners of n, of depth d
+unfoldable pub cornersAt : ℕ → ℕ → Triangle
+cornersAt zero n = []
+cornersAt (suc zero) n = firstTriangle (n % 2)
+cornersAt (suc (suc d)) n = childTriangle (n % 2) (cornersAt (suc d) (n / 2))
+
+-- the corners of node n, from 2 up
+unfoldable pub cornersOf : ℕ → Triangle
+cornersOf n = cornersAt (depthOf n) n

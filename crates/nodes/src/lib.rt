@@ -1,0 +1,16 @@
+// Node numbers and everything that takes no panel: depth, neighbours, corners, and what a call may answer.
+pub mod numbers; // Node, LeafNumber, a node's depth
+pub mod refusals; // the customer's refusals, the answers that hold one, and their numbers
+pub mod triples; // the neighbour triple and the call `neighbours`
+pub mod triangles; // both child matrices and the call `corners`
+
+pub use numbers::LeafNumber;
+pub use numbers::Node;
+pub use numbers::depth;
+pub use refusals::Answer;
+pub use refusals::Around;
+pub use refusals::Counted;
+pub use refusals::Found;
+pub use refusals::Numbered;
+pub use refusals::Refusal;
+pub use triples::Triple;

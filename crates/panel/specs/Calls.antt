@@ -1,0 +1,82 @@
+-- The calls on a lent panel, by the table of "When the scanner says no": s is the panel before the call, n the answer's number.
+use mathlib.Core.Path.{_≡_}
+use mathlib.Core.Logic.{_≢_, _⊎_, _↔_}
+use mathlib.Core.List.{List, [], _∷_, _++_}
+use Prim.Native.Nat.{ℕ, _+_, _-_, _*_, _/_, _≤_, _<_}
+use lib.ListN.{length}
+use Rattle.nodes.specs.Depth.{depthOf}
+use Rattle.nodes.specs.Neighbours.{edge}
+use Rattle.nodes.specs.Table.{Row, unless, Answers, Outcome}
+use Rattle.panel.specs.Cuts.{Smallest}
+use Rattle.panel.specs.Panels.{Fits, deepOf, RightLength, CutOf, Good, InRange, LeafOf, numberIn, leafCount, leafPart}
+
+-- ---- calls that read
+
+abbrev pub panelRows : List ℕ → List Row
+panelRows s = unless 1 (RightLength s) ∷ unless 2 (Good s) ∷ []
+
+abbrev pub Judged : List ℕ → ℕ → Type 0
+Judged s n = Answers (panelRows s) n
+
+-- .. with the count c
+abbrev pub Count : List ℕ → ℕ → ℕ → Type 0
+Count s n c = Outcome (panelRows s) ℕ (λ x. x ≡ leafCount s) (λ x. x ≡ 0) n c
+
+-- .. with the part t
+abbrev pub LeafBits : List ℕ → ℕ → List ℕ → Type 0
+LeafBits s n t = Outcome (panelRows s) (List ℕ) (λ x. x ≡ leafPart s) (λ x. x ≡ []) n t
+
+-- k is the leaf of number i
+pub record LeafNumbered (s : List ℕ) (i k : ℕ) : Type 0 where
+  pub leaf : LeafOf s k
+  pub number : numberIn s k ≡ i
+
+-- leaf number i is node k
+abbrev pub LeafAt : List ℕ → ℕ → ℕ → ℕ → Type 0
+LeafAt s i n k = Outcome (panelRows s ++ unless 8 (i < leafCount s) ∷ []) ℕ (LeafNumbered s i) (λ x. x ≡ 0) n k
+
+abbrev pub leafRows : List ℕ → ℕ → List Row
+leafRows s k = panelRows s ++ unless 3 (InRange s k) ∷ unless 4 (LeafOf s k) ∷ []
+
+-- node k is leaf number i
+abbrev pub NumberOf : List ℕ → ℕ → ℕ → ℕ → Type 0
+NumberOf s k n i = Outcome (leafRows s k) ℕ (λ x. x ≡ numberIn s k) (λ x. x ≡ 0) n i
+
+-- ---- calls that change a panel: t is the panel after the call
+
+-- the good panel of depth D whose only cut is node 1
+pub record Fresh (D : ℕ) (t : List ℕ) : Type 0 where
+  pub good : Good t
+  pub deep : deepOf t ≡ D
+  pub cuts : (n : ℕ) → CutOf t n ↔ (n ≡ 1)
+
+abbrev pub Open : List ℕ → ℕ → ℕ → List ℕ → Type 0
+Open s D n t = Outcome (unless 1 (Fits s D) ∷ []) (List ℕ) (Fresh D) (λ x. x ≡ s) n t
+
+-- the smallest good panel, by cuts, that holds every old cut and k's
+pub record SplitAt (s : List ℕ) (k : ℕ) (t : List ℕ) : Type 0 where
+  pub good : Good t
+  pub long : length t ≡ length s
+  pub cuts : Smallest (λ n. CutOf s n ⊎ (n ≡ k)) (CutOf t)
+
+abbrev pub Split : List ℕ → ℕ → ℕ → List ℕ → Type 0
+Split s k n t = Outcome (leafRows s k ++ unless 5 (depthOf k < deepOf s) ∷ []) (List ℕ) (SplitAt s k) (λ x. x ≡ s) n t
+
+-- the other child of k's parent
+abbrev pub sibling : ℕ → ℕ
+sibling k = 4 * (k / 2) + 1 - k
+
+-- k's sibling and, where the parent's edge neighbour is a node, both that neighbour's children are leaves
+pub record Together (s : List ℕ) (k : ℕ) : Type 0 where
+  pub beside : LeafOf s (sibling k)
+  pub across : edge (k / 2) ≢ 0 → LeafOf s (2 * edge (k / 2)) × LeafOf s (2 * edge (k / 2) + 1)
+
+-- exactly the parent's cut and, if the parent has an edge neighbour, that neighbour's cut are taken back
+pub record MergeAt (s : List ℕ) (k : ℕ) (t : List ℕ) : Type 0 where
+  pub good : Good t
+  pub long : length t ≡ length s
+  pub cuts : (n : ℕ) → CutOf t n ↔ (CutOf s n × (n ≢ k / 2) × (n ≢ edge (k / 2)))
+
+abbrev pub Merge : List ℕ → ℕ → ℕ → List ℕ → Type 0
+Merge s k n t =
+    Outcome (leafRows s k ++ unless 6 (1 < depthOf k) ∷ unless 7 (Together s k) ∷ []) (List ℕ) (MergeAt s k) (λ x. x ≡ s) n t

@@ -1,0 +1,3 @@
+pub mod Cuts
+pub mod Panels
+pub mod Calls

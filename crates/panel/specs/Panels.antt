@@ -1,0 +1,53 @@
+-- When a panel is good.
+use mathlib.Core.Path.{_≡_}
+use mathlib.Core.List.{List}
+use Prim.Native.Nat.{ℕ, _+_, _-_, _*_, _^_, _≤_, _<_}
+use lib.ListN.{length, take, drop}
+use Rattle.nodes.specs.Depth.{depthOf}
+use Rattle.nodes.specs.Limits.{leastDepth, greatestDepth}
+use Rattle.sums.specs.Words.{word, leafBit}
+use Rattle.sums.specs.Sums.{Right}
+use Rattle.panel.specs.Cuts.{Cut, GoodCuts, Leaf, leafNumber}
+
+-- a panel of depth D, from 3 to 14, is 2 ^ (D - 1) bytes
+pub record Fits (s : List ℕ) (D : ℕ) : Type 0 where
+  pub low : leastDepth ≤ D
+  pub high : D ≤ greatestDepth
+  pub long : length s ≡ 2 ^ (D - 1)
+
+-- D comes from the length
+abbrev pub deepOf : List ℕ → ℕ
+deepOf s = depthOf (length s) + 1
+
+abbrev pub RightLength : List ℕ → Type 0
+RightLength s = Fits s (deepOf s)
+
+-- the cuts of a panel
+abbrev pub CutOf : List ℕ → ℕ → Type 0
+CutOf s = Cut (deepOf s) (leafBit (deepOf s) s)
+
+-- the length is right, the spare bits are zero, the depth word agrees, every sum is right, leaf bit 0 is set, and the cuts are good
+pub record Good (s : List ℕ) : Type 0 where
+  pub fits : RightLength s
+  pub right : Right (deepOf s) s
+  pub first : leafBit (deepOf s) s 0 ≡ 1
+  pub cuts : GoodCuts (CutOf s)
+
+-- a node of the panel: from 2 up to 2 ^ (D + 1) - 1
+pub record InRange (s : List ℕ) (k : ℕ) : Type 0 where
+  pub low : 2 ≤ k
+  pub high : k < 2 ^ (deepOf s + 1)
+
+abbrev pub LeafOf : List ℕ → ℕ → Type 0
+LeafOf s k = Leaf (CutOf s) k
+
+abbrev pub numberIn : List ℕ → ℕ → ℕ
+numberIn s k = leafNumber (deepOf s) (leafBit (deepOf s) s) k
+
+-- word 1 is the leaf count
+abbrev pub leafCount : List ℕ → ℕ
+leafCount s = word (deepOf s) s 1
+
+-- the bytes that the leaf bits fill
+abbrev pub leafPart : List ℕ → List ℕ
+leafPart s = take (2 ^ (deepOf s - 3)) (drop (3 * 2 ^ (deepOf s - 3)) s)
