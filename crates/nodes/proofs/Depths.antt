@@ -22,6 +22,12 @@ pub record At (d n : ℕ) : Type 0 where
   pub low : 2 ^ d ≤ n
   pub high : n < 2 ^ suc d
 
+pub at-from : {d n : ℕ} → 2 ^ d ≤ n → n < 2 ^ (d + 1) → At d n
+at-from {d} {n} l h = record { low = l; high = omega (arith, pow-next d) }
+
+pub at-below : {d n : ℕ} → At d n → n < 2 ^ (d + 1)
+at-below {d} a = omega (arith, pow-next d)
+
 pub at-root : At 0 1
 at-root = record { low = omega arith; high = omega arith }
 

@@ -1,1 +1,4 @@
 pub mod Depths
+pub mod Neighbouring
+pub mod Edges
+pub mod Tables

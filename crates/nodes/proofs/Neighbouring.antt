@@ -1,0 +1,125 @@
+-- A node's neighbours: the two child rules as laws, and what follows by induction over nodes: neighbours are mutual and of one depth.
+use mathlib.Core.Path.{_≡_, refl, sym, _∙_, ap, subst}
+use mathlib.Core.Logic.{_≢_, _⊎_, inl, inr, _↔_}
+use Prim.Native.Nat.{ℕ, zero, suc, _+_, _-_, _*_, _/_, _%_, _^_, _≤_, _<_, min}
+use native.Mathlib.Omega.{arith}
+use native.Mathlib.Decide.{decLe, decLt}
+use Rattle.nodes.specs.declared.triples.Triple.{Triple}
+use Rattle.nodes.specs.Depth.{depthOf, depthIn}
+use Rattle.nodes.specs.Neighbours.{rightChild, leftTriple, rightTriple, firstTriple, childTriple, neighboursAt, neighboursOf, edge}
+use Rattle.nodes.proofs.Depths.{At, at-depth, depth-is, depth-left, depth-right, depth-pos, depth-half, depth-zero, node-ind}
+
+-- `rightChild` as a sum, which `omega` reads
+pub right-child : (x : ℕ) → rightChild x ≡ 2 * x + min x 1
+right-child zero = omega arith
+right-child (suc x) = omega arith
+
+-- ---- the child rules
+
+at-left-child : (d n : ℕ) → neighboursAt (suc (suc d)) (2 * n) ≡ leftTriple (neighboursAt (suc d) n) n
+unfolding neighboursAt
+at-left-child d n =
+    let b : 2 * n % 2 ≡ 0 = omega arith in
+    let h : 2 * n / 2 ≡ n = omega arith in
+    rw (b, h)
+
+at-right-child : (d n : ℕ) → neighboursAt (suc (suc d)) (2 * n + 1) ≡ rightTriple (neighboursAt (suc d) n) n
+unfolding neighboursAt
+at-right-child d n =
+    let b : (2 * n + 1) % 2 ≡ 1 = omega arith in
+    let h : (2 * n + 1) / 2 ≡ n = omega arith in
+    rw (b, h)
+
+pub left-triple : (n : ℕ) → 2 ≤ n → neighboursOf (2 * n) ≡ leftTriple (neighboursOf n) n
+unfolding neighboursOf
+left-triple n p =
+    let q = depth-pos n p in
+    let e : depthOf n ≡ suc (depthOf n - 1) = omega arith in
+    let f : depthOf (2 * n) ≡ suc (suc (depthOf n - 1)) = omega (arith, depth-left n (omega arith)) in
+    ap (λ d. neighboursAt d (2 * n)) f ∙ at-left-child (depthOf n - 1) n ∙ ap (λ d. leftTriple (neighboursAt d n) n) (sym e)
+
+pub right-triple : (n : ℕ) → 2 ≤ n → neighboursOf (2 * n + 1) ≡ rightTriple (neighboursOf n) n
+unfolding neighboursOf
+right-triple n p =
+    let q = depth-pos n p in
+    let e : depthOf n ≡ suc (depthOf n - 1) = omega arith in
+    let f : depthOf (2 * n + 1) ≡ suc (suc (depthOf n - 1)) = omega (arith, depth-right n (omega arith)) in
+    ap (λ d. neighboursAt d (2 * n + 1)) f ∙ at-right-child (depthOf n - 1) n ∙ ap (λ d. rightTriple (neighboursAt d n) n) (sym e)
+
+-- ---- mutual
+
+-- x, where it is a node, is one of n's depth and has n for its neighbour of the kind f
+pub record Back (f : Triple → ℕ) (x n : ℕ) : Type 0 where
+  pub node : 2 ≤ x
+  pub level : depthOf x ≡ depthOf n
+  pub again : f (neighboursOf x) ≡ n
+
+abbrev pub edgeIn : Triple → ℕ
+edgeIn t = t .edge
+
+abbrev pub leftIn : Triple → ℕ
+leftIn t = t .left
+
+abbrev pub rightIn : Triple → ℕ
+rightIn t = t .right
+
+-- each neighbour of n has n for a neighbour
+pub record Mutual (n : ℕ) : Type 0 where
+  pub by-edge : 1 ≤ neighboursOf n .edge → Back edgeIn (neighboursOf n .edge) n
+  pub by-left : 1 ≤ neighboursOf n .left → Back rightIn (neighboursOf n .left) n
+  pub by-right : 1 ≤ neighboursOf n .right → Back leftIn (neighboursOf n .right) n
+
+-- the right child of a neighbour, as the left child's
+module _ (f g : Triple → ℕ) (step : (x : ℕ) → 2 ≤ x → f (neighboursOf (2 * x + 1)) ≡ 2 * g (neighboursOf x)) where
+  back-odd : (n : ℕ) → 2 ≤ n → (x : ℕ) → (1 ≤ x → Back g x n) → 1 ≤ rightChild x → Back f (rightChild x) (2 * n)
+  back-odd n p zero h q = absurd (omega arith)
+  back-odd n p (suc x) h q =
+      let b = h (omega arith) in record {
+        node = omega arith;
+        level = depth-right (suc x) (omega arith) ∙ ap suc (b .level) ∙ sym (depth-left n (omega arith));
+        again = step (suc x) (b .node) ∙ ap (λ y. 2 * y) (b .again);
+      }
+
+-- the left child of a neighbour, as the right child's
+module _ (f g : Triple → ℕ) (step : (x : ℕ) → 2 ≤ x → f (neighboursOf (2 * x)) ≡ rightChild (g (neighboursOf x))) where
+  back-even : (n : ℕ) → 2 ≤ n → (x : ℕ) → (1 ≤ x → Back g x n) → 1 ≤ 2 * x → Back f (2 * x) (2 * n + 1)
+  back-even n p x h q =
+      let b = h (omega arith) in
+      let o : rightChild n ≡ 2 * n + 1 = omega (arith, right-child n) in record {
+        node = omega (arith, b .node);
+        level = depth-left x (omega arith) ∙ ap suc (b .level) ∙ sym (depth-right n (omega arith));
+        again = step x (b .node) ∙ ap rightChild (b .again) ∙ o;
+      }
+
+mutual-two : Mutual 2
+unfolding neighboursOf neighboursAt depthOf depthIn
+mutual-two = record { by-edge = λ h. record { node = omega arith; level = refl; again = refl }; by-left = λ h. absurd (omega arith); by-right = λ h. absurd (omega arith) }
+
+mutual-three : Mutual 3
+unfolding neighboursOf neighboursAt depthOf depthIn
+mutual-three = record { by-edge = λ h. record { node = omega arith; level = refl; again = refl }; by-left = λ h. absurd (omega arith); by-right = λ h. absurd (omega arith) }
+
+mutual-left : (n : ℕ) → 2 ≤ n → Mutual n → Mutual (2 * n)
+mutual-left n p m = record {
+  by-edge = rw (left-triple n p) (back-odd edgeIn leftIn (λ x q. ap edgeIn (right-triple x q)) n p (neighboursOf n .right) (m .by-right));
+  by-left = rw (left-triple n p) (λ h. record {
+    node = omega arith;
+    level = depth-right n (omega arith) ∙ sym (depth-left n (omega arith));
+    again = ap rightIn (right-triple n p);
+  });
+  by-right = rw (left-triple n p) (back-odd leftIn edgeIn (λ x q. ap leftIn (right-triple x q)) n p (neighboursOf n .edge) (m .by-edge));
+}
+
+mutual-right : (n : ℕ) → 2 ≤ n → Mutual n → Mutual (2 * n + 1)
+mutual-right n p m = record {
+  by-edge = rw (right-triple n p) (back-even edgeIn rightIn (λ x q. ap edgeIn (left-triple x q)) n p (neighboursOf n .left) (m .by-left));
+  by-left = rw (right-triple n p) (back-even rightIn edgeIn (λ x q. ap rightIn (left-triple x q)) n p (neighboursOf n .edge) (m .by-edge));
+  by-right = rw (right-triple n p) (λ h. record {
+    node = omega arith;
+    level = depth-left n (omega arith) ∙ sym (depth-right n (omega arith));
+    again = ap leftIn (left-triple n p);
+  });
+}
+
+pub mutually : (n : ℕ) → 2 ≤ n → Mutual n
+mutually = node-ind Mutual mutual-two mutual-three mutual-left mutual-right
