@@ -73,7 +73,7 @@ pub fn with_right_sums(panel_depth: u32, leaf_bits: &[bool]) -> Vec<u8> {
 /// up from the leaf bit's node as long as it is a left child, then one more.
 pub fn cut_named(panel_depth: u32, place: usize) -> u32 {
     let mut node = (1u32 << panel_depth) + place as u32;
-    while node % 2 == 0 {
+    while node.is_multiple_of(2) {
         node /= 2;
     }
     node / 2
@@ -109,26 +109,45 @@ pub fn closed(cuts: &BTreeSet<u32>) -> BTreeSet<u32> {
     all
 }
 
-/// A good panel: its depth and its cuts.
+/// A node that is not cut, and whose parent is.
+fn is_leaf(cuts: &BTreeSet<u32>, node: u32) -> bool {
+    node >= 2 && !cuts.contains(&node) && cuts.contains(&(node / 2))
+}
+
+/// All leaves, from left to right.
+fn leaves_of(panel_depth: u32, cuts: &BTreeSet<u32>) -> Vec<u32> {
+    let children = cuts.iter().flat_map(|n| [2 * n, 2 * n + 1]);
+    let mut leaves: Vec<u32> = children.filter(|n| is_leaf(cuts, *n)).collect();
+    leaves.sort_by_key(|n| below(*n, panel_depth).0);
+    leaves
+}
+
+/// A good panel: its depth, its cuts, and the leaves that follow from them, from left to right.
 #[derive(Clone, Debug, PartialEq, Eq)]
 pub struct Panel {
     depth: u32,
     cuts: BTreeSet<u32>,
+    leaves: Vec<u32>,
 }
 
 impl Panel {
+    fn of(depth: u32, cuts: BTreeSet<u32>) -> Panel {
+        let leaves = leaves_of(depth, &cuts);
+        Panel { depth, cuts, leaves }
+    }
+
     /// The panel whose only cut is node 1, for a depth of 3 to 14.
     pub fn fresh(depth: u32) -> Answer<Panel> {
         if !(LEAST_DEPTH..=GREATEST_DEPTH).contains(&depth) {
             return Err(WRONG_LENGTH);
         }
-        Ok(Panel { depth, cuts: BTreeSet::from([1]) })
+        Ok(Panel::of(depth, BTreeSet::from([1])))
     }
 
     /// The smallest good panel of this depth with the given cuts, all above depth D.
     pub fn holding(panel_depth: u32, cuts: &BTreeSet<u32>) -> Panel {
         assert!(cuts.iter().all(|n| *n >= 1 && depth(*n) < panel_depth));
-        Panel { depth: panel_depth, cuts: closed(cuts) }
+        Panel::of(panel_depth, closed(cuts))
     }
 
     /// The panel that the bytes hold, or 1 or 2.
@@ -138,7 +157,7 @@ impl Panel {
         let places = (1..leaf_bits.len()).filter(|p| leaf_bits[*p]);
         let cuts = places.map(|p| cut_named(depth, p)).collect();
         if leaf_bits[0] && good(&cuts) && with_right_sums(depth, &leaf_bits) == bytes {
-            Ok(Panel { depth, cuts })
+            Ok(Panel::of(depth, cuts))
         } else {
             Err(NOT_GOOD)
         }
@@ -152,24 +171,15 @@ impl Panel {
         &self.cuts
     }
 
-    /// A node that is not cut, and whose parent is.
-    fn is_leaf(&self, node: u32) -> bool {
-        node >= 2 && !self.cuts.contains(&node) && self.cuts.contains(&(node / 2))
-    }
-
-    /// All leaves, from left to right.
-    pub fn leaves(&self) -> Vec<u32> {
-        let children = self.cuts.iter().flat_map(|n| [2 * n, 2 * n + 1]);
-        let mut leaves: Vec<u32> = children.filter(|n| self.is_leaf(*n)).collect();
-        leaves.sort_by_key(|n| below(*n, self.depth).0);
-        leaves
+    pub fn leaves(&self) -> &[u32] {
+        &self.leaves
     }
 
     /// "A leaf k of depth d sets leaf bit k·2^(D−d) − 2^D, the leftmost below it, and no other."
     pub fn leaf_bits(&self) -> Vec<bool> {
         let mut bits = vec![false; 1 << self.depth];
-        for leaf in self.leaves() {
-            bits[below(leaf, self.depth).0] = true;
+        for leaf in &self.leaves {
+            bits[below(*leaf, self.depth).0] = true;
         }
         bits
     }
@@ -180,14 +190,14 @@ impl Panel {
 
     /// The leaf of a number, counted from the left, or 8.
     pub fn leaf_at(&self, number: u32) -> Answer<u32> {
-        self.leaves().get(number as usize).copied().ok_or(NO_SUCH_NUMBER)
+        self.leaves.get(number as usize).copied().ok_or(NO_SUCH_NUMBER)
     }
 
     /// Nothing where the node is a leaf, else 3 or 4.
-    pub fn must_be_leaf(&self, node: u32) -> Answer<()> {
+    fn must_be_leaf(&self, node: u32) -> Answer<()> {
         if !(2..2u32 << self.depth).contains(&node) {
             Err(NO_SUCH_NODE)
-        } else if !self.is_leaf(node) {
+        } else if !is_leaf(&self.cuts, node) {
             Err(NOT_A_LEAF)
         } else {
             Ok(())
@@ -197,8 +207,7 @@ impl Panel {
     /// How many leaves stand left of this one, or 3 or 4.
     pub fn number_of(&self, node: u32) -> Answer<u32> {
         self.must_be_leaf(node)?;
-        let first = |n: u32| below(n, self.depth).0;
-        Ok(self.leaves().iter().filter(|n| first(**n) < first(node)).count() as u32)
+        Ok(self.leaves.iter().take_while(|n| **n != node).count() as u32)
     }
 
     /// "the smallest good panel, by cuts, that holds every old cut and k's", or 3, 4, 5
@@ -207,8 +216,9 @@ impl Panel {
         if depth(node) == self.depth {
             return Err(AT_GREATEST_DEPTH);
         }
-        self.cuts.insert(node);
-        self.cuts = closed(&self.cuts);
+        let mut cuts = self.cuts.clone();
+        cuts.insert(node);
+        *self = Panel::of(self.depth, closed(&cuts));
         Ok(())
     }
 
@@ -220,16 +230,12 @@ impl Panel {
         }
         let parent = node / 2;
         let across = neighbours_of(parent).edge;
-        let mut gone = vec![parent];
-        if across != 0 {
-            gone.push(across);
-        }
-        if !gone.iter().all(|n| self.is_leaf(2 * n) && self.is_leaf(2 * n + 1)) {
+        let gone = if across == 0 { vec![parent] } else { vec![parent, across] };
+        if !gone.iter().all(|n| is_leaf(&self.cuts, 2 * n) && is_leaf(&self.cuts, 2 * n + 1)) {
             return Err(LEAVES_MISSING);
         }
-        for n in gone {
-            self.cuts.remove(&n);
-        }
+        let cuts = self.cuts.iter().copied().filter(|n| !gone.contains(n)).collect();
+        *self = Panel::of(self.depth, cuts);
         Ok(())
     }
 }

@@ -57,7 +57,7 @@ impl Run {
     /// "Each record prints one line: its number from 1, a space, its answer. After the last record, if a
     /// panel is open, each leaf prints one line: its leaf number, a space, its node."
     pub fn printed(&self) -> String {
-        let leaves = self.panel.as_ref().map_or(Vec::new(), Panel::leaves);
+        let leaves = self.panel.as_ref().map_or(&[][..], Panel::leaves);
         let answers = self.answers.iter().enumerate().map(|(i, answer)| format!("{} {answer}\n", i + 1));
         let leaves = leaves.iter().enumerate().map(|(i, node)| format!("{i} {node}\n"));
         answers.chain(leaves).collect()
@@ -86,7 +86,7 @@ pub fn records_of_text(text: &str) -> Result<Vec<u8>, String> {
             continue;
         }
         let wrong = |what: String| format!("line {}: {what}", i + 1);
-        if records.len() % RECORD != 0 {
+        if !records.len().is_multiple_of(RECORD) {
             return Err(wrong("nothing may follow a record of fewer than 8 bytes".into()));
         }
         records.extend(record_of(&words).map_err(wrong)?);
