@@ -1,6 +1,6 @@
 -- A node's corners, by "Corners": three points of two coordinates, in the order A, B, C.
 use mathlib.Core.List.{List, [], _∷_}
-use Prim.Native.Nat.{ℕ, zero, suc, _+_, _/_, _%_}
+use Prim.Native.Nat.{ℕ, zero, suc, _+_, _/_, _%_, _≤_}
 use lib.ListN.{getD}
 use Rattle.nodes.specs.Depth.{depthOf}
 
@@ -30,6 +30,17 @@ point x y = x ∷ y ∷ []
 
 abbrev pub triangle : Point → Point → Point → Triangle
 triangle a b c = a ∷ b ∷ c ∷ []
+
+-- the panel has corners (0,0) to (256,256)
+pub record InSquare (p : Point) : Type 0 where
+  pub x : px p ≤ 256
+  pub y : py p ≤ 256
+
+-- all three corners lie in the panel
+pub record InPanel (t : Triangle) : Type 0 where
+  pub a : InSquare (cornerA t)
+  pub b : InSquare (cornerB t)
+  pub c : InSquare (cornerC t)
 
 -- node 2 is A(0,256), B(0,0), C(256,0); node 3 is A(256,0), B(256,256), C(0,256)
 abbrev pub firstTriangle : ℕ → Triangle
