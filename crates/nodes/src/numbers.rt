@@ -5,8 +5,10 @@ ghost use Rattle.nodes.specs.Depth.{depthOf};
 ghost use Rattle.nodes.specs.Limits.{KnownNode};
 ghost use Rattle.nodes.specs.Table.{Says};
 
-// The depths that a panel may have.
+// The least depth that a panel may have.
 pub const LEAST_DEPTH: usize = 3;
+
+// The greatest depth that a panel may have.
 pub const GREATEST_DEPTH: usize = 14;
 
 // The last node of the greatest depth.

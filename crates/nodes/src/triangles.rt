@@ -55,9 +55,11 @@ pub fn corners_of(n: Node) -> [[u32; 2]; 3]
     while levels > 0 {
         levels -= 1;
         if (k >> levels) % 2 == 0 {
-            t = left_corners(t);
+            let next = left_corners(t);
+            t = next;
         } else {
-            t = right_corners(t);
+            let next = right_corners(t);
+            t = next;
         }
     }
     t
