@@ -27,9 +27,11 @@ edge-low n z = go (decLt n 1) (decLt n 2)
     go (no p) (yes q) = absurd (z (ap edge (let e : n ≡ 1 = omega arith in e) ∙ edge-root))
     go (no p) (no q) = omega arith
 
+-- edge is mutual
 pub edge-mutual : (n : ℕ) → edge n ≢ 0 → edge (edge n) ≡ n
 edge-mutual n z = mutually n (edge-low n z) .by-edge (omega arith) .again
 
+-- the edge neighbour has the node's depth
 pub edge-depth : (n : ℕ) → edge n ≢ 0 → depthOf (edge n) ≡ depthOf n
 edge-depth n z = mutually n (edge-low n z) .by-edge (omega arith) .level
 

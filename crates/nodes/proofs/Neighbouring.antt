@@ -1,10 +1,12 @@
 -- A node's neighbours: the two child rules as laws, and what follows by induction over nodes: neighbours are mutual and of one depth.
-use mathlib.Core.Path.{_≡_, refl, sym, _∙_, ap}
+use mathlib.Core.Path.{_≡_, refl, sym, _∙_, ap, subst}
+use mathlib.Core.Logic.{_≢_, _↔_}
 use Prim.Native.Nat.{ℕ, zero, suc, _+_, _-_, _*_, _/_, _%_, _^_, _≤_, _<_, min}
 use native.Mathlib.Omega.{arith}
+use native.Mathlib.Decide.{decLe}
 use Rattle.nodes.specs.declared.triples.Triple.{Triple}
 use Rattle.nodes.specs.Depth.{depthOf, depthIn}
-use Rattle.nodes.specs.Neighbours.{rightChild, leftTriple, rightTriple, firstTriple, neighboursAt, neighboursOf, edge}
+use Rattle.nodes.specs.Neighbours.{none, rightChild, leftTriple, rightTriple, firstTriple, neighboursAt, neighboursOf, edge}
 use lib.Pow.{pow-pos}
 use Rattle.nodes.proofs.Depths.{depth-is, depth-left, depth-right, depth-pos, depth-le, below-depth, node-ind}
 
@@ -148,3 +150,27 @@ neighbours-below n D p h =
       right = one-below leftIn (neighboursOf n .right) n D p h (m .by-right);
       edge = one-below edgeIn (neighboursOf n .edge) n D p h (m .by-edge);
     }
+
+-- ---- what the rules promise
+
+no-triple : neighboursOf 1 ≡ none
+unfolding neighboursOf neighboursAt depthOf depthIn
+no-triple = refl
+
+-- x has left y exactly when y has right x (y not 0)
+pub left-right : (x y : ℕ) → 2 ≤ x → y ≢ 0 → (neighboursOf x .left ≡ y) ↔ (neighboursOf y .right ≡ x)
+left-right x y p z = (there, λ e. back e (decLe 2 y))
+  where
+    there : neighboursOf x .left ≡ y → neighboursOf y .right ≡ x
+    there e = subst (λ i. neighboursOf i .right ≡ x) e (mutually x p .by-left (omega arith) .again)
+
+    back : neighboursOf y .right ≡ x → Dec (2 ≤ y) → neighboursOf x .left ≡ y
+    back e (yes q) = subst (λ i. neighboursOf i .left ≡ y) e (mutually y q .by-right (omega arith) .again)
+    back e (no q) = let o : y ≡ 1 = omega arith in absurd (omega (arith, ap rightIn (ap neighboursOf o ∙ no-triple)))
+
+-- neighbours have the node's depth
+pub left-depth : (n : ℕ) → 2 ≤ n → neighboursOf n .left ≢ 0 → depthOf (neighboursOf n .left) ≡ depthOf n
+left-depth n p z = mutually n p .by-left (omega arith) .level
+
+pub right-depth : (n : ℕ) → 2 ≤ n → neighboursOf n .right ≢ 0 → depthOf (neighboursOf n .right) ≡ depthOf n
+right-depth n p z = mutually n p .by-right (omega arith) .level

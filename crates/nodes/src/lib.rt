@@ -10,7 +10,6 @@ pub use numbers::LEAST_DEPTH;
 pub use numbers::LeafNumber;
 pub use numbers::Node;
 pub use numbers::depth;
-pub use numbers::known;
 pub use refusals::Answer;
 pub use refusals::Around;
 pub use refusals::Counted;
