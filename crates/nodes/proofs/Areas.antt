@@ -7,7 +7,7 @@ use Rattle.nodes.specs.Depth.{depthOf, depthIn}
 use Rattle.nodes.specs.Corners.{Triangle, cornerA, cornerB, cornerC, px, py, leftTriangle, rightTriangle, cornersAt, cornersOf, twiceArea}
 use Rattle.nodes.proofs.Depths.{depth-left, depth-right, node-ind}
 use Rattle.nodes.proofs.Cornering.{left-triangle, right-triangle}
-use Rattle.nodes.proofs.Midpoints.{Exact, exact}
+use Rattle.nodes.proofs.Midpoints.{Exact, midpoint-exact}
 
 half-r : (x m a c : ℕ) → 2 * m ≡ a + c → 2 * (x * m) ≡ x * a + x * c
 half-r x m a c e = mul-left-comm 2 x m ∙ ap (λ y. x * y) e ∙ mul-add x a c
@@ -38,7 +38,7 @@ twice-right t x = halves _ _ _ _ (turn-right (px (cornerA t)) (py (cornerA t)) (
 -- a node's area is that of its two children together
 pub shares : (n : ℕ) → 2 ≤ n → depthOf n ≤ 16 → twiceArea (cornersOf n) ≡ twiceArea (cornersOf (2 * n)) + twiceArea (cornersOf (2 * n + 1))
 shares n p d =
-    let x = exact n p d in
+    let x = midpoint-exact n p d in
     rw (left-triangle n p, right-triangle n p) (omega (arith, twice-left (cornersOf n) x, twice-right (cornersOf n) x))
 
 abbrev AreaAt : ℕ → Type 0
@@ -59,11 +59,11 @@ area : (n : ℕ) → 2 ≤ n → AreaAt n
 area = node-ind AreaAt area-two area-three
     (λ n p a h e.
     let d = depth-left n (omega arith) in
-    let x = exact n p (omega arith) in
+    let x = midpoint-exact n p (omega arith) in
     rw (left-triangle n p) (area-step _ _ h (twice-left (cornersOf n) x) (a (suc h) (omega arith))))
     (λ n p a h e.
     let d = depth-right n (omega arith) in
-    let x = exact n p (omega arith) in
+    let x = midpoint-exact n p (omega arith) in
     rw (right-triangle n p) (area-step _ _ h (twice-right (cornersOf n) x) (a (suc h) (omega arith))))
 
 -- twice the area at depth d is 2 ^ (17 - d)

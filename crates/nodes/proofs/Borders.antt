@@ -12,7 +12,7 @@ use Rattle.nodes.specs.Corners.{Point, InSquare, InPanel, cornerA, corne
 use Rattle.nodes.proofs.Depths.{depth-left, depth-right, node-ind}
 use Rattle.nodes.proofs.Neighbouring.{right-child, left-triple, right-triple}
 use Rattle.nodes.proofs.Cornering.{left-triangle, right-triangle, in-panel}
-use Rattle.nodes.proofs.Midpoints.{Exact, exact}
+use Rattle.nodes.proofs.Midpoints.{Exact, midpoint-exact}
 
 -- how far two coordinates are from being both 0 or both 256
 abbrev gap : ℕ → ℕ → ℕ
@@ -64,7 +64,7 @@ module _ (n : ℕ) (p : 2 ≤ n) (d : depthOf n ≤ 16) where
   w = in-panel n p
 
   x : Exact (cornersOf n)
-  x = exact n p d
+  x = midpoint-exact n p d
 
   flat-left : Flatless n → Flatless (2 * n)
   flat-left f = record {
@@ -117,7 +117,7 @@ module _ (n : ℕ) (p : 2 ≤ n) (d : depthOf n ≤ 16) (b : Edged n) where
   in-w = in-panel n p
 
   in-x : Exact (cornersOf n)
-  in-x = exact n p d
+  in-x = midpoint-exact n p d
 
   in-f : Flatless n
   in-f = flatless n p (omega arith)

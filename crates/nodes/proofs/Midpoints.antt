@@ -15,27 +15,27 @@ use Rattle.nodes.proofs.Cornering.{left-triangle, right-triangle}
 Multiple : ℕ → ℕ → Type 0
 Multiple k x = (q : ℕ) × (x ≡ q * 2 ^ k)
 
-ev-more : (j k x : ℕ) → Multiple (k + j) x → Multiple k x
+multiple-more : (j k x : ℕ) → Multiple (k + j) x → Multiple k x
 unfolding Multiple
-ev-more j k x e = (e .0 * 2 ^ j, e .1 ∙ ap (λ y. e .0 * y) (pow-add 2 k j ∙ mul-comm (2 ^ k) (2 ^ j)) ∙ sym (mul-assoc (e .0) (2 ^ j) (2 ^ k)))
+multiple-more j k x e = (e .0 * 2 ^ j, e .1 ∙ ap (λ y. e .0 * y) (pow-add 2 k j ∙ mul-comm (2 ^ k) (2 ^ j)) ∙ sym (mul-assoc (e .0) (2 ^ j) (2 ^ k)))
 
-ev-down : (j k x : ℕ) → k ≤ j → Multiple j x → Multiple k x
-ev-down j k x h e = let s : j ≡ k + (j - k) = omega arith in ev-more (j - k) k x (subst (λ i. Multiple i x) s e)
+multiple-down : (j k x : ℕ) → k ≤ j → Multiple j x → Multiple k x
+multiple-down j k x h e = let s : j ≡ k + (j - k) = omega arith in multiple-more (j - k) k x (subst (λ i. Multiple i x) s e)
 
 double : (k x : ℕ) (e : Multiple (suc k) x) → x ≡ unfold Multiple in (e .0 * 2 ^ k * 2)
 unfolding Multiple
 double k x e = e .1 ∙ ap (λ y. e .0 * y) (pow-suc 2 k) ∙ sym (mul-assoc (e .0) (2 ^ k) 2)
 
 -- the middle of two even numbers
-ev-mid : (k a c : ℕ) → Multiple (suc k) a → Multiple (suc k) c → Multiple k ((a + c) / 2)
+multiple-mid : (k a c : ℕ) → Multiple (suc k) a → Multiple (suc k) c → Multiple k ((a + c) / 2)
 unfolding Multiple
-ev-mid k a c e f =
+multiple-mid k a c e f =
     let m : (a + c) / 2 ≡ e .0 * 2 ^ k + f .0 * 2 ^ k = omega (arith, double k a e, double k c f) in
     (e .0 + f .0, m ∙ sym (add-mul (e .0) (f .0) (2 ^ k)))
 
-ev-exact : (k a c : ℕ) → Multiple (suc k) a → Multiple (suc k) c → 2 * ((a + c) / 2) ≡ a + c
+multiple-exact : (k a c : ℕ) → Multiple (suc k) a → Multiple (suc k) c → 2 * ((a + c) / 2) ≡ a + c
 unfolding Multiple
-ev-exact k a c e f = omega (arith, double k a e, double k c f)
+multiple-exact k a c e f = omega (arith, double k a e, double k c f)
 
 -- ---- the grid, with h halvings left
 
@@ -49,7 +49,7 @@ record Grid (h : ℕ) (t : Triangle) : Type 0 where
 
 -- a corner of the long side, and the middle one, as corners of the child's long side
 side : (h x : ℕ) → Multiple ((suc h + 1) / 2) x → Multiple ((h + 1) / 2) x
-side h x e = ev-down ((suc h + 1) / 2) ((h + 1) / 2) x (omega arith) e
+side h x e = multiple-down ((suc h + 1) / 2) ((h + 1) / 2) x (omega arith) e
 
 top : (h x : ℕ) → Multiple (suc h / 2) x → Multiple ((h + 1) / 2) x
 top h x e = let s : suc h / 2 ≡ (h + 1) / 2 = omega arith in subst (λ i. Multiple i x) s e
@@ -57,15 +57,15 @@ top h x e = let s : suc h / 2 ≡ (h + 1) / 2 = omega arith in subst (λ i. Mult
 even : (h x : ℕ) → Multiple ((suc h + 1) / 2) x → Multiple (suc (h / 2)) x
 even h x e = let s : (suc h + 1) / 2 ≡ suc (h / 2) = omega arith in subst (λ i. Multiple i x) s e
 
-mid-ev : (h a c : ℕ) → Multiple ((suc h + 1) / 2) a → Multiple ((suc h + 1) / 2) c → Multiple (h / 2) ((a + c) / 2)
-mid-ev h a c e f = ev-mid (h / 2) a c (even h a e) (even h c f)
+multiple-middle : (h a c : ℕ) → Multiple ((suc h + 1) / 2) a → Multiple ((suc h + 1) / 2) c → Multiple (h / 2) ((a + c) / 2)
+multiple-middle h a c e f = multiple-mid (h / 2) a c (even h a e) (even h c f)
 
 grid-left : (h : ℕ) (t : Triangle) → Grid (suc h) t → Grid h (leftTriangle t)
 grid-left h t g = record {
   gax = side h _ (g .gax);
   gay = side h _ (g .gay);
-  gbx = mid-ev h _ _ (g .gax) (g .gcx);
-  gby = mid-ev h _ _ (g .gay) (g .gcy);
+  gbx = multiple-middle h _ _ (g .gax) (g .gcx);
+  gby = multiple-middle h _ _ (g .gay) (g .gcy);
   gcx = top h _ (g .gbx);
   gcy = top h _ (g .gby);
 }
@@ -74,8 +74,8 @@ grid-right : (h : ℕ) (t : Triangle) → Grid (suc h) t → Grid h (rightTriang
 grid-right h t g = record {
   gax = top h _ (g .gbx);
   gay = top h _ (g .gby);
-  gbx = mid-ev h _ _ (g .gax) (g .gcx);
-  gby = mid-ev h _ _ (g .gay) (g .gcy);
+  gbx = multiple-middle h _ _ (g .gax) (g .gcx);
+  gby = multiple-middle h _ _ (g .gay) (g .gcy);
   gcx = side h _ (g .gcx);
   gcy = side h _ (g .gcy);
 }
@@ -84,17 +84,17 @@ grid-right h t g = record {
 abbrev OnGrid : ℕ → Type 0
 OnGrid n = (h : ℕ) → depthOf n + h ≡ 17 → Grid h (cornersOf n)
 
-ev-at : (q k x : ℕ) → x ≡ q * 2 ^ k → Multiple k x
+multiple-at : (q k x : ℕ) → x ≡ q * 2 ^ k → Multiple k x
 unfolding Multiple
-ev-at q k x e = (q, e)
+multiple-at q k x e = (q, e)
 
 grid-two : Grid 16 (cornersOf 2)
 unfolding cornersOf cornersAt depthOf depthIn
-grid-two = record { gax = ev-at 0 8 0 refl; gay = ev-at 1 8 256 refl; gbx = ev-at 0 8 0 refl; gby = ev-at 0 8 0 refl; gcx = ev-at 1 8 256 refl; gcy = ev-at 0 8 0 refl }
+grid-two = record { gax = multiple-at 0 8 0 refl; gay = multiple-at 1 8 256 refl; gbx = multiple-at 0 8 0 refl; gby = multiple-at 0 8 0 refl; gcx = multiple-at 1 8 256 refl; gcy = multiple-at 0 8 0 refl }
 
 grid-three : Grid 16 (cornersOf 3)
 unfolding cornersOf cornersAt depthOf depthIn
-grid-three = record { gax = ev-at 1 8 256 refl; gay = ev-at 0 8 0 refl; gbx = ev-at 1 8 256 refl; gby = ev-at 1 8 256 refl; gcx = ev-at 0 8 0 refl; gcy = ev-at 1 8 256 refl }
+grid-three = record { gax = multiple-at 1 8 256 refl; gay = multiple-at 0 8 0 refl; gbx = multiple-at 1 8 256 refl; gby = multiple-at 1 8 256 refl; gcx = multiple-at 0 8 0 refl; gcy = multiple-at 1 8 256 refl }
 
 depth-two : depthOf 2 ≡ 1
 unfolding depthOf depthIn
@@ -118,10 +118,10 @@ pub record Exact (t : Triangle) : Type 0 where
 
 grid-exact : (h : ℕ) (t : Triangle) → Grid (suc h) t → Exact t
 grid-exact h t g = record {
-  mx = ev-exact (h / 2) _ _ (even h _ (g .gax)) (even h _ (g .gcx));
-  my = ev-exact (h / 2) _ _ (even h _ (g .gay)) (even h _ (g .gcy));
+  mx = multiple-exact (h / 2) _ _ (even h _ (g .gax)) (even h _ (g .gcx));
+  my = multiple-exact (h / 2) _ _ (even h _ (g .gay)) (even h _ (g .gcy));
 }
 
 -- every midpoint is exact down to parents of depth 16, so that all corners down to depth 17 are whole numbers
-pub exact : (n : ℕ) → 2 ≤ n → depthOf n ≤ 16 → Exact (cornersOf n)
-exact n p d = grid-exact (16 - depthOf n) (cornersOf n) (on-grid n p (suc (16 - depthOf n)) (omega arith))
+pub midpoint-exact : (n : ℕ) → 2 ≤ n → depthOf n ≤ 16 → Exact (cornersOf n)
+midpoint-exact n p d = grid-exact (16 - depthOf n) (cornersOf n) (on-grid n p (suc (16 - depthOf n)) (omega arith))

@@ -9,9 +9,7 @@ returns : tie.Need-returns
 returns c = says-no (λ k. omega arith)
 
 returns-2 : tie.Need-returns-2
-returns-2 c =
-    let n = c .before .before .before .args .n .0 in
-    record { yes = λ e. omega (arith, leb-true n 32767 e); no = λ e k. omega (arith, leb-false n 32767 e) }
+returns-2 c = record { yes = λ e. omega (arith, leb-true); no = λ e k. omega (arith, leb-false) }
 
 pub known-spec : {M : Type 1} → statement M
 known-spec = tie.close (tie.spec returns returns-2)
