@@ -32,6 +32,10 @@ first-suc j n = rw (pow-suc) (omega (arith))
 pub first-left : (j n : ℕ) → first (suc j) n ≡ first j (2 * n)
 first-left j n = rw (pow-suc) (omega (arith))
 
+-- the right child's lies past all below the left child
+pub first-right : (j n : ℕ) → first j (2 * n + 1) ≡ first j (2 * n) + 2 ^ j
+first-right j n = omega arith
+
 pub at-first : (j d n : ℕ) → At d n → At (d + j) (first j n)
 at-first zero d n a = subst (λ x. At x (first 0 n)) (sym (add-zero d)) (omega arith)
 at-first (suc j) d n a = subst (λ x. At x (first (suc j) n)) (sym (add-suc d j)) (omega (arith, first-suc j n, at-first j d n a))
