@@ -8,6 +8,8 @@ pub mod triangles; // both child matrices and the call `corners`
 pub use numbers::LeafNumber;
 pub use numbers::Node;
 pub use numbers::depth;
+pub use numbers::LEAST_DEPTH;
+pub use numbers::GREATEST_DEPTH;
 pub use refusals::Answer;
 pub use refusals::Around;
 pub use refusals::Counted;
@@ -15,3 +17,4 @@ pub use refusals::Found;
 pub use refusals::Numbered;
 pub use refusals::Refusal;
 pub use triples::Triple;
+pub use longside::edge_of;

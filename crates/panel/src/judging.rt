@@ -1,0 +1,92 @@
+// Judging a lent panel: its length, its words, its cuts.
+use nodes::Answer;
+use nodes::Node;
+use nodes::Refusal;
+ghost use mathlib.Core.Path.{_≡_};
+ghost use Prim.Native.Nat.{_+_, _^_, _≤_, _<_};
+ghost use Rattle.nodes.specs.Depth.{depthOf};
+ghost use Rattle.nodes.specs.Refusals.{answerNumber};
+ghost use Rattle.nodes.specs.Table.{Says};
+ghost use Rattle.sums.specs.Words.{leafBit, Room};
+ghost use Rattle.panel.specs.Cuts.{Cut, GoodCuts, named};
+ghost use Rattle.panel.specs.Calls.{Judged};
+ghost use Rattle.panel.specs.Judging.{CutPlace, Deep, Follows, NodeOf};
+
+// The depth of the panel by its length, or 0 where the length is wrong.
+pub fn depth_of(panel: &[u8]) -> usize
+    ensures { λ r. ⌜ Deep (now (panel .entry)) r ⌝ }
+{
+    let n = panel.len();
+    if n < 1usize << (nodes::LEAST_DEPTH - 1) {
+        return 0;
+    }
+    if 1usize << (nodes::GREATEST_DEPTH - 1) < n {
+        return 0;
+    }
+    let d = nodes::depth(Node(n as u32)) as usize;
+    if n != 1usize << d {
+        return 0;
+    }
+    d + 1
+}
+
+// The place of the leaf bit that names n: the leftmost below its right child.
+pub fn cut_place(deep: usize, n: Node) -> usize
+    requires { ⌜ (deep ≤ 17) × (1 ≤ n .0) × (depthOf (n .0) < deep) ⌝ }
+    ensures { λ r. ⌜ CutPlace deep (n .0) r ⌝ }
+{
+    let d = nodes::depth(n) as usize;
+    ((2 * n.0 as usize + 1) << (deep - 1 - d)) - (1usize << deep)
+}
+
+// Whether node n is cut: whether the leaf bit that names it is set.
+pub fn is_cut(panel: &[u8], deep: usize, n: Node) -> bool
+    requires { ⌜ Room deep (now panel) × NodeOf deep (n .0) ⌝ }
+    ensures { λ r. ⌜ Says (Cut deep (leafBit deep (now (panel .entry))) (n .0)) r ⌝ }
+{
+    if nodes::depth(n) as usize == deep {
+        return false;
+    }
+    sums::leaf_bit(panel, deep, cut_place(deep, n)) == 1
+}
+
+// Whether the node that leaf bit p names may be cut: its parent is, and its edge neighbour, where that is a node.
+fn follows(panel: &[u8], deep: usize, p: usize) -> bool
+    requires { ⌜ Room deep (now panel) × (0 < p) × (p < 2 ^ deep) ⌝ }
+    ensures { λ r. ⌜ Says (Follows (Cut deep (leafBit deep (now (panel .entry)))) (named deep p)) r ⌝ }
+{
+    let t = u32::trailing_zeros(p as u32);
+    let n = (((1usize << deep) + p) >> t) as u32 / 2;
+    if n < 2 {
+        return true;
+    }
+    if is_cut(panel, deep, Node(n / 2)) {
+        let e = nodes::edge_of(Node(n));
+        if e == 0 {
+            return true;
+        }
+        return is_cut(panel, deep, Node(e));
+    }
+    false
+}
+
+// Whether the cuts that the leaf bits name are good.
+fn cuts_good(panel: &[u8], deep: usize) -> bool
+    requires { ⌜ Room deep (now panel) ⌝ }
+    ensures { λ r. ⌜ Says (GoodCuts (Cut deep (leafBit deep (now (panel .entry))))) r ⌝ }
+{
+    if is_cut(panel, deep, Node(1)) {
+        let mut p: usize = 1;
+        while p < 1usize << deep {
+            if sums::leaf_bit(panel, deep, p) == 1 {
+                if follows(panel, deep, p) {
+                } else {
+                    return false;
+                }
+            }
+            p += 1;
+        }
+        return true;
+    }
+    false
+}
