@@ -1,12 +1,11 @@
 -- Going down from node 1: sums say which nodes are cut and which are leaves, and lead to the leaf of a number.
-use mathlib.Core.Path.{_≡_, ap, subst}
+use mathlib.Core.Path.{_≡_, subst}
 use mathlib.Core.Logic.{_↔_, ite}
 use Prim.Native.Nat.{ℕ, zero, suc, _+_, _-_, _*_, _/_, _^_, _≤_, _<_}
 use native.Mathlib.Nat.{zero-add}
 use native.Mathlib.Decide.{decLt, decLe}
 use native.Mathlib.Omega.{arith}
 use lib.Pow.{pow-pos}
-use Rattle.nodes.specs.Depth.{depthOf}
 use Rattle.nodes.proofs.Depths.{At, at-left, at-right, at-root, depth-is}
 use Rattle.sums.specs.Rank.{rank}
 use Rattle.panel.specs.Cuts.{Cut, Leaf, leafNumber}
