@@ -3,7 +3,7 @@ use mathlib.Core.Path.{_≡_, sym, ap, _∙_, subst}
 use mathlib.Core.Bool.{Bool, true, false}
 use mathlib.Core.Logic.{_↔_}
 use Prim.Native.Nat.{ℕ, suc, _+_, _-_, _*_, _/_, _%_, _^_, _≤_, _<_}
-use native.Mathlib.Nat.{mod-eq-of-lt}
+use native.Mathlib.Nat.{div-le-self, mod-eq-of-lt}
 use native.Mathlib.Omega.{arith}
 use lib.Pow.{pow-mono, pow-pos}
 use lib.Dec.{eqb}
@@ -65,7 +65,7 @@ found D p l a b =
     record {
       deep = one-shl D 64 (omega arith);
       zeros = omega (arith, x .levels);
-      right-child = omega (arith, div-le (2 ^ D + p) (2 ^ trailingZeros 32 p));
+      right-child = omega (arith, div-le-self (2 ^ D + p) (2 ^ trailingZeros 32 p));
       low = omega (arith, x .at .low, pow-pos (x .depth));
       high = omega (arith, x .at .high, pow-mono (let g : suc (x .depth) ≤ D = omega (arith, x .levels) in g));
     }
