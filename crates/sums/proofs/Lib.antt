@@ -1,2 +1,4 @@
 pub mod Slots
 pub mod Rooms
+pub mod Places
+pub mod Steps

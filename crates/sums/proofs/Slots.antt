@@ -3,17 +3,17 @@ use mathlib.Core.Path.{_≡_, refl, sym, ap, ap₂, _∙_, subst}
 use mathlib.Core.Logic.{_⊎_, inl, inr, ⊎-elim}
 use mathlib.Core.List.{List}
 use Prim.Native.Nat.{ℕ, zero, suc, _+_, _-_, _*_, _/_, _%_, _^_, _≤_, _<_, suc-le-suc, zero-le}
-use native.Mathlib.Nat.{add-mul, mul-add, one-mul, mul-one, mul-zero, zero-mul, pow-suc, zero-lt-suc, le-trans, le-of-eq, le-refl}
+use native.Mathlib.Nat.{add-mul, mul-add, mul-comm, one-mul, mul-one, mul-zero, zero-mul, pow-suc, zero-lt-suc, le-trans, le-of-eq, le-refl}
 use native.Mathlib.Decide.{le-ind}
 use native.Mathlib.Numerals.{add-one}
 use native.Mathlib.Omega.{arith}
 use lib.ListN.{length}
 use lib.Pow.{pow-mono, pow-add, pow-pos}
-use Rattle.bits.proofs.Laws.{Bytes, ext-bits, run-inj, bit-lt, le-or-lt, order, field-put-same, field-put-other, field-lt, length-putField}
+use Rattle.bits.proofs.Laws.{Bytes, ext-bits, run-inj, bit-lt, le-or-lt, order, run-ext, Out, bit-out, bytes-putField, field-put-same, field-put-other, field-lt, length-putField}
 use Rattle.bits.proofs.Windows.{field-one}
 use Rattle.bits.specs.Bits.{bit, field, putField}
 use Rattle.nodes.specs.Depth.{depthOf}
-use Rattle.nodes.proofs.Depths.{At, pow-next, at-from, at-below, at-depth, depth-is, depth-le, depth-zero}
+use Rattle.nodes.proofs.Depths.{At, at-root, pow-next, at-from, at-below, at-depth, depth-is, depth-le, depth-zero}
 use Rattle.sums.specs.Words.{width, start, word, putWord, leafBit}
 
 -- within a row
@@ -34,6 +34,14 @@ from D k = start D (depthOf k) k
 
 abbrev pub wide : ℕ → ℕ → ℕ
 wide D k = width D (depthOf k)
+
+-- where row d starts
+pub row-from : (D d : ℕ) → d ≤ D → from D (2 ^ d) ≡ (D - d + 3) * 2 ^ d
+row-from D d h =
+    let o : depthOf (2 ^ d) ≡ d = depth-is {d = d} {n = 2 ^ d} (at-from (le-refl (2 ^ d)) (omega (arith, pow-next d, pow-pos d))) in
+    let w : D + 1 - d ≡ D - d + 1 = omega arith in
+    ap (λ (x : ℕ). start D x (2 ^ d)) o
+    ∙ omega (arith, ap (λ (x : ℕ). 2 ^ d * x) w, mul-add (2 ^ d) (D - d) 1, add-mul (D - d) 3 (2 ^ d), mul-comm (2 ^ d) (D - d), pow-next d)
 
 pub packed : (D k : ℕ) → k < 2 ^ (D + 1) → from D (k + 1) ≡ from D k + wide D k
 packed D zero h =
@@ -82,10 +90,41 @@ module _ (D : ℕ) (bs : List ℕ) (k v : ℕ) (hk : k < 2 ^ (D + 1)) where
       field-put-other bs (from D k) (wide D k) v (from D j) (wide D j)
       (⊎-elim (λ l. inl (apart D j k l (omega arith))) (⊎-elim (λ e. absurd (n e)) (λ l. inr (apart D k j l (omega arith)))) (order j k))
 
+-- a word at depth d fits D - d + 1 bits
+pub word-lt : (D : ℕ) (bs : List ℕ) (k : ℕ) → word D bs k < 2 ^ wide D k
+unfolding word
+word-lt D bs k = field-lt bs (from D k) (wide D k)
+
+pub length-putWord : (D : ℕ) (bs : List ℕ) (k v : ℕ) → length (putWord D bs k v) ≡ length bs
+unfolding putWord
+length-putWord D bs k v = length-putField bs (from D k) (wide D k) v
+
+pub bytes-putWord : (D : ℕ) (bs : List ℕ) (k v : ℕ) → Bytes bs → Bytes (putWord D bs k v)
+unfolding putWord
+bytes-putWord D bs k v h = bytes-putField bs (from D k) (wide D k) v h
+
+-- a write to a word leaves every bit outside it
+pub bit-put-word : (D : ℕ) (bs : List ℕ) (k v p : ℕ) → Out (from D k) (wide D k) p → bit (putWord D bs k v) p ≡ bit bs p
+unfolding putWord
+bit-put-word D bs k v p h = bit-out bs (from D k) (wide D k) v p h
+
+-- a word stays where its bits do
+pub word-same : (D k : ℕ) (xs ys : List ℕ) → ((p : ℕ) → from D k ≤ p → p < from D k + wide D k → bit ys p ≡ bit xs p) → word D ys k ≡ word D xs k
+unfolding word
+word-same D k xs ys h =
+    run-ext (bit ys) (bit xs) (from D k) (from D k) (wide D k) (λ i l. h (from D k + i) (omega arith) (omega arith))
+
 -- ---- the words and bits 0 and 1 make the whole panel
 
 pub from-zero : (D : ℕ) → from D 0 ≡ 2
 from-zero D = ap (λ (d : ℕ). start D d 0) depth-zero ∙ omega (arith, zero-mul (D + 1 - 0))
+
+pub from-one : (D : ℕ) → from D 1 ≡ D + 3
+from-one D = ap (λ (d : ℕ). start D d 1) {x = depthOf 1} {y = 0} (depth-is at-root) ∙ omega arith
+
+-- the leaf bits stand at the end
+pub from-leaf : (D : ℕ) → from D (2 ^ D) ≡ 3 * 2 ^ D
+from-leaf D = row-from D D (le-refl D) ∙ ap (λ (x : ℕ). (x + 3) * 2 ^ D) {x = D - D} {y = 0} (omega arith)
 
 -- the word that holds bit p
 pub holder : (D p n : ℕ) → n ≤ 2 ^ (D + 1) → 2 ≤ p → p < from D n → (k : ℕ) × (k < 2 ^ (D + 1)) × (from D k ≤ p) × (p < from D k + wide D k)
