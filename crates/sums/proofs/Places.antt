@@ -2,14 +2,13 @@
 use mathlib.Core.Path.{_≡_, sym, ap, ap₂, _∙_}
 use mathlib.Core.List.{List}
 use Prim.Native.Nat.{ℕ, suc, _+_, _-_, _*_, _^_, _≤_, _<_}
-use native.Mathlib.Nat.{le-refl}
 use native.Mathlib.Omega.{arith}
 use lib.ListN.{length}
-use lib.Pow.{pow-mono, pow-pos}
+use lib.Pow.{pow-mono}
 use Rattle.bits.specs.Bits.{field, putField}
 use Rattle.bits.proofs.Laws.{field-lt}
 use Rattle.nodes.specs.Depth.{depthOf}
-use Rattle.nodes.proofs.Depths.{At, at-from, at-left, at-right, pow-next, depth-is}
+use Rattle.nodes.proofs.Depths.{At, at-left, at-right, pow-next, depth-is}
 use Rattle.sums.specs.Words.{width, word, putWord, Room}
 use Rattle.sums.proofs.Slots.{from, packed, row-from, in-panel}
 use Rattle.sums.proofs.Rooms.{bounds, room-bytes}

@@ -11,7 +11,11 @@ use Rattle.nodes.proofs.Depths.{pow-next, depth-le}
 use Rattle.sums.specs.Words.{width, Room}
 use Rattle.sums.proofs.Slots.{from, row-from, in-panel}
 
--- the leaf bits fill whole bytes, and all words take four times their place
+-- the leaf bits fill whole bytes
+pub whole-bytes : (D : ℕ) → 3 ≤ D → 2 ^ D ≡ 8 * 2 ^ (D - 3)
+whole-bytes D h = ap (λ (x : ℕ). 2 ^ x) {x = D} {y = D - 3 + 3} (omega arith) ∙ pow-add 2 (D - 3) 3 ∙ omega arith
+
+-- all words take four times the place of the leaf bits
 pub record Bounds (D : ℕ) : Type 0 where
   pub leaves : 2 ^ D ≤ 131072
   pub eight : 8 ≤ 2 ^ D
@@ -23,7 +27,7 @@ pub bounds : {D : ℕ} {bs : List ℕ} → Room D bs → Bounds D
 bounds {D} {bs} r = record {
   leaves = pow-mono {i = D} {j = 17} (r .high);
   eight = pow-mono {i = 3} {j = D} (r .low);
-  whole = ap (λ (x : ℕ). 2 ^ x) {x = D} {y = D - 3 + 3} (omega arith) ∙ pow-add 2 (D - 3) 3 ∙ omega arith;
+  whole = whole-bytes D (r .low);
   words = pow-next D;
   all = pow-add 2 D 2 ∙ omega arith;
 }

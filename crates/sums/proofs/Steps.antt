@@ -5,14 +5,13 @@ use mathlib.Core.List.{List}
 use Prim.Native.Nat.{ℕ, suc, _+_, _-_, _*_, _^_, _≤_, _<_}
 use native.Mathlib.Omega.{arith}
 use lib.ListN.{length}
-use Rattle.bits.specs.Bits.{bit}
 use Rattle.bits.proofs.Laws.{le-or-lt}
 use Rattle.nodes.specs.Depth.{depthOf}
 use Rattle.nodes.proofs.Depths.{pow-next, depth-left, depth-right, depth-le}
 use Rattle.sums.specs.Words.{width, word, putWord}
 use Rattle.sums.specs.Sums.{Summed}
 use Rattle.sums.specs.Made.{Made}
-use Rattle.sums.proofs.Slots.{from, wide, packed, from-mono, from-one, from-leaf, word-lt, word-same, length-putWord, bit-put-word, word-put-same, word-put-other}
+use Rattle.sums.proofs.Slots.{wide, packed, from-mono, from-one, from-leaf, word-lt, word-same, length-putWord, bit-put-word, word-put-same, word-put-other}
 
 abbrev pub sumOf : ℕ → List ℕ → ℕ → ℕ
 sumOf D bs k = word D bs (2 * k) + word D bs (2 * k + 1)
