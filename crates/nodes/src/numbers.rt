@@ -14,11 +14,6 @@ pub const GREATEST_DEPTH: usize = 14;
 // The last node of the greatest depth.
 pub const GREATEST_NODE: u32 = (2 << GREATEST_DEPTH) - 1;
 
-// The depths that a panel may have.
-pub const LEAST_DEPTH: usize = 3;
-
-pub const GREATEST_DEPTH: usize = 14;
-
 // A node's number: node 1 is the whole panel, node k has the children 2k and 2k + 1.
 pub struct Node(pub u32);
 
