@@ -5,6 +5,9 @@ use mathlib.Core.Logic.{_≢_, _⊎_, inl, inr}
 use mathlib.Core.List.{List, [], _∷_}
 use Prim.Native.Nat.{ℕ}
 use native.Mathlib.Decide.{ℕ-discrete}
+use native.Mathlib.Omega.{arith}
+use lib.Dec.{eqb}
+use borrow.Author.Tests.{eqb-true, eqb-false}
 use Rattle.nodes.specs.Table.{Row, Answers, Outcome, Says}
 
 pub answers-one : (rows : List Row) (n m : ℕ) → Answers rows n → Answers rows m → n ≡ m
@@ -33,3 +36,20 @@ module _ {rows : List Row} {A : Type 0} {Done Refused : A → Type 0} {x : A} wh
 
   pub is-refused : {n : ℕ} → n ≢ 0 → Answers rows n → Refused x → Outcome rows A Done Refused n x
   is-refused z a r = record { answer = a; done = λ e. absurd (z e); refused = λ _. r }
+
+-- ---- tests
+
+pub says-yes : {P : Type 0} → P → Says P true
+says-yes h = record { yes = λ _. h; no = λ e _. never e }
+  where
+    never : true ≡ false → ⊥
+    never e = let z : _≡_ {A = ℕ} 0 1 = cc in omega arith
+
+pub says-no : {P : Type 0} → (P → ⊥) → Says P false
+says-no h = record { yes = λ e. never e; no = λ _. h }
+  where
+    never : {P : Type 0} → false ≡ true → P
+    never e = let z : _≡_ {A = ℕ} 0 1 = cc in absurd (omega arith)
+
+pub says-equal : {P : Type 0} (a b : ℕ) → (a ≡ b → P) → (P → a ≡ b) → Says P (eqb a b)
+says-equal a b to from = record { yes = λ e. to (eqb-true a b e); no = λ e p. eqb-false a b e (from p) }

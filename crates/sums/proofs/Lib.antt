@@ -1,1 +1,5 @@
 pub mod Slots
+pub mod Sevens
+pub mod Rows
+pub mod Lowest
+pub mod Heads
