@@ -3,3 +3,5 @@ pub mod Sevens
 pub mod Rows
 pub mod Lowest
 pub mod Heads
+pub mod Ranks
+pub mod Counts
