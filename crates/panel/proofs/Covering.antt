@@ -2,11 +2,17 @@
 use mathlib.Core.Path.{_≡_, refl, sym, ap, _∙_, subst}
 use mathlib.Core.Logic.{_≢_}
 use Prim.Native.Nat.{ℕ, zero, suc, _+_, _-_, _*_, _/_, _%_, _^_, _≤_, _<_}
+use native.Mathlib.Nat.{div-div-eq-div-mul, pow-suc}
 use native.Mathlib.Decide.{decLt, le-ind}
 use native.Mathlib.Omega.{arith}
 use lib.Pow.{pow-pos}
 use Rattle.nodes.proofs.Depths.{At, at-ancestor, ancestor}
 use Rattle.panel.specs.Cuts.{Leaf}
+
+-- the ancestor j levels up, as a number
+pub ancestor-is : (j n : ℕ) → ancestor j n ≡ n / 2 ^ j
+ancestor-is zero n = omega arith
+ancestor-is (suc j) n = ap (λ x. x / 2) (ancestor-is j n) ∙ div-div-eq-div-mul n (2 ^ j) 2 ∙ ap (λ x. n / x) (sym (pow-suc 2 j))
 
 -- a decided set of cuts that holds the panel, is closed under parents and cuts no node of depth D
 pub record Tree (D : ℕ) (P : ℕ → Type 0) : Type 0 where
