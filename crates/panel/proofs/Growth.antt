@@ -1,18 +1,20 @@
 -- How many leaves a split makes: at least one more, and at most two more for each level of the leaf.
 use mathlib.Core.Path.{_≡_, refl, sym, ap, _∙_, subst}
 use mathlib.Core.Logic.{_≢_, _⊎_, inl, inr, ⊎-elim, _↔_, ite, if-pos, if-neg}
-use mathlib.Core.List.{List, [], _∷_, List·Memᴰ, List·Memᴰ·head, List·Memᴰ·tail, List·Memᴰ·not-nil, List·Memᴰ·cases-cons}
+use mathlib.Core.List.{List, [], _∷_, map, Memᴰ·map, List·Memᴰ, List·Memᴰ·head, List·Memᴰ·tail, List·Memᴰ·not-nil, List·Memᴰ·cases-cons}
 use Prim.Native.Nat.{ℕ, zero, suc, _+_, _-_, _*_, _/_, _^_, _≤_, _<_}
 use native.Mathlib.Decide.{ℕ-discrete, decLt}
 use native.Mathlib.Omega.{arith}
-use lib.ListN.{length}
+use lib.ListN.{length, length-map}
 use lib.Pow.{pow-pos}
 use Rattle.nodes.specs.Depth.{depthOf}
 use Rattle.nodes.proofs.Depths.{At, at-depth}
 use Rattle.sums.specs.Rank.{rank}
-use Rattle.panel.specs.Cuts.{Cut, named, Leaf}
+use Rattle.panel.specs.Cuts.{Cut, named, Leaf, placeOf}
 use Rattle.panel.proofs.Places.{cut-low, named-once}
-use Rattle.panel.proofs.Forced.{Forced, Added, forcedList, few, listed}
+use Rattle.panel.proofs.Leaves.{GoodBits}
+use Rattle.panel.proofs.OneBit.{named-place, cut-set, set-cut}
+use Rattle.panel.proofs.Forced.{Forced, Added, first-added, forcedList, few, listed}
 
 -- ---- counts when bits change
 
@@ -36,10 +38,10 @@ module _ (f g : ℕ → ℕ) (p : ℕ) where
 pub rank-same : (f g : ℕ → ℕ) (m : ℕ) → ((p : ℕ) → p < m → g p ≡ f p) → rank g m ≡ rank f m
 rank-same f g m e = rank-miss f g m m (omega arith) (λ q l z. e q l)
 
-pub rank-mono : (f g : ℕ → ℕ) (m : ℕ) → ((p : ℕ) → p < m → f p ≤ g p) → rank f m ≤ rank g m
+pub rank-le : (f g : ℕ → ℕ) (m : ℕ) → ((p : ℕ) → p < m → f p ≤ g p) → rank f m ≤ rank g m
 unfolding rank
-rank-mono f g zero e = omega arith
-rank-mono f g (suc m) e = omega (arith, rank-mono f g m (λ p l. e p (omega arith)), e m (omega arith))
+rank-le f g zero e = omega arith
+rank-le f g (suc m) e = omega (arith, rank-le f g m (λ p l. e p (omega arith)), e m (omega arith))
 
 -- more bits, one of them new
 pub rank-more : (f g : ℕ → ℕ) (m p : ℕ) → p < m → f p < g p → ((q : ℕ) → q < m → f q ≤ g q) → rank f m < rank g m
@@ -48,7 +50,7 @@ rank-more f g zero p h s e = absurd (omega arith)
 rank-more f g (suc m) p h s e = go (ℕ-discrete m p) (rank-more f g m p)
   where
     go : Dec (m ≡ p) → (p < m → f p < g p → ((q : ℕ) → q < m → f q ≤ g q) → rank f m < rank g m) → rank f m + f m < rank g m + g m
-    go (yes r) ih = omega (arith, rank-mono f g m (λ q l. e q (omega arith)), ap f r, ap g r)
+    go (yes r) ih = omega (arith, rank-le f g m (λ q l. e q (omega arith)), ap f r, ap g r)
     go (no r) ih = omega (arith, ih (omega arith) s (λ q l. e q (omega arith)), e m (omega arith))
 
 -- f with the bit at place p set to v
@@ -80,3 +82,61 @@ rank-list g s m (x ∷ ps) f e = omega (arith, rank-list g s m ps (put f x (g x)
     next p (yes r) h = inl (ap g r ∙ sym (put-same f x (g x) p r))
     next p (no r) (inl h) = inl (h ∙ sym (put-other f x (g x) p r))
     next p (no r) (inr h) = ⊎-elim (λ z. absurd (r z)) inr (List·Memᴰ·cases-cons h)
+
+-- ---- after a split
+
+module _ (D : ℕ) (f g : ℕ → ℕ) (F : GoodBits D f) (H : GoodBits D g) (k : ℕ) (l : Leaf (Cut D f) k)
+    (e : (n : ℕ) → Cut D g n ↔ Added (Cut D f) (depthOf k) k n) where
+  -- a set bit stays
+  stays : (p : ℕ) → p < 2 ^ D → f p ≡ 1 → g p ≡ 1
+  stays p h s = go (ℕ-discrete p 0)
+    where
+      go : Dec (p ≡ 0) → g p ≡ 1
+      go (yes z) = ap g z ∙ H .start
+      go (no z) = cut-set D (H .deep) g p (omega arith) h (e (named D p) .1 (inl (set-cut D f p (omega arith) h s)))
+
+  grows : (p : ℕ) → p < 2 ^ D → f p ≤ g p
+  grows p h = go (ℕ-discrete (f p) 1)
+    where
+      go : Dec (f p ≡ 1) → f p ≤ g p
+      go (yes s) = omega (arith, stays p h s)
+      go (no s) = omega (arith, F .small p)
+
+  -- a bit that is new is that of a forced cut
+  new : (p : ℕ) → p < 2 ^ D → (g p ≡ f p) ⊎ List·Memᴰ p (map (λ n. placeOf D (2 * n + 1)) (forcedList (depthOf k) k))
+  new p h = go (ℕ-discrete p 0) (ℕ-discrete (g p) 1) (ℕ-discrete (f p) 1)
+    where
+      forced : 0 < p → (f p ≡ 1 → ⊥) → Added (Cut D f) (depthOf k) k (named D p) → List·Memᴰ p (map (λ n. placeOf D (2 * n + 1)) (forcedList (depthOf k) k))
+      forced w s (inl c) = absurd (s (cut-set D (F .deep) f p w h c))
+      forced w s (inr c) =
+          subst (λ x. List·Memᴰ x (map (λ n. placeOf D (2 * n + 1)) (forcedList (depthOf k) k))) (sym (named-place D (F .deep) p w h))
+          (Memᴰ·map (λ n. placeOf D (2 * n + 1)) (listed (depthOf k) k (named D p) c))
+
+      go : Dec (p ≡ 0) → Dec (g p ≡ 1) → Dec (f p ≡ 1) → (g p ≡ f p) ⊎ List·Memᴰ p (map (λ n. placeOf D (2 * n + 1)) (forcedList (depthOf k) k))
+      go (yes z) t s = inl (ap g z ∙ H .start ∙ sym (F .start) ∙ ap f (sym z))
+      go (no z) (yes t) (yes s) = inl (t ∙ sym s)
+      go (no z) (yes t) (no s) = inr (forced (omega arith) s (e (named D p) .0 (set-cut D g p (omega arith) h t)))
+      go (no z) (no t) s = inl (omega (arith, grows p h, H .small p, F .small p))
+
+  -- at most two cuts, and so two leaves, a level
+  pub split-few : rank g (2 ^ D) ≤ rank f (2 ^ D) + 2 * depthOf k
+  split-few =
+      omega (
+        arith,
+        rank-list g (H .small) (2 ^ D) (map (λ n. placeOf D (2 * n + 1)) (forcedList (depthOf k) k)) f new,
+        length-map (forcedList (depthOf k) k) (λ n. placeOf D (2 * n + 1)),
+        few (depthOf k) k,
+      )
+
+  -- at least k's own
+  pub split-more : rank f (2 ^ D) < rank g (2 ^ D)
+  split-more = go (e k .1 own)
+    where
+      own : Added (Cut D f) (depthOf k) k k
+      own = first-added (Cut D f) (F .cuts) (depthOf k) k (at-depth (omega (arith, l .low)))
+
+      go : Cut D g k → rank f (2 ^ D) < rank g (2 ^ D)
+      go c = rank-more f g (2 ^ D) (c .place) (c .high) (omega (arith, c .set, F .small (c .place), was)) grows
+        where
+          was : f (c .place) ≢ 1
+          was s = l .uncut (record { place = c .place; low = c .low; high = c .high; set = s; names = c .names })

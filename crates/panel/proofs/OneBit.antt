@@ -11,7 +11,7 @@ use Rattle.nodes.proofs.Depths.{At, at-depth, depth-right}
 use Rattle.nodes.proofs.Edges.{edge-level}
 use Rattle.sums.specs.Rank.{rank}
 use Rattle.panel.specs.Cuts.{Cut, named, placeOf}
-use Rattle.panel.proofs.Places.{cutPlace, cut-place, cut-low, names-named, named-once}
+use Rattle.panel.proofs.Places.{cutPlace, cut-place, cut-low, cut-depth, names-named, named-once}
 use Rattle.panel.proofs.Merging.{Kept}
 
 -- g is f with the bit at place p set to v
@@ -24,6 +24,13 @@ pub cut-same : (D : ℕ) (f g : ℕ → ℕ) → ((p : ℕ) → p < 2 ^ D → f 
 cut-same D f g e n = (
   λ c. record { place = c .place; low = c .low; high = c .high; set = sym (e (c .place) (c .high)) ∙ c .set; names = c .names },
   λ c. record { place = c .place; low = c .low; high = c .high; set = e (c .place) (c .high) ∙ c .set; names = c .names })
+
+-- a set bit is a cut of the node that its place names, and back
+pub set-cut : (D : ℕ) (f : ℕ → ℕ) (p : ℕ) → 0 < p → p < 2 ^ D → f p ≡ 1 → Cut D f (named D p)
+set-cut D f p w h s = record { place = p; low = w; high = h; set = s; names = refl }
+
+pub cut-set : (D : ℕ) → D ≤ 32 → (f : ℕ → ℕ) (p : ℕ) → 0 < p → p < 2 ^ D → Cut D f (named D p) → f p ≡ 1
+cut-set D l f p w h c = ap f (named-once D p (c .place) l w h (c .low) (c .high) (sym (c .names))) ∙ c .set
 
 -- ---- the place that names a node
 
@@ -73,6 +80,25 @@ module _ (D : ℕ) (l : D ≤ 32) {d n : ℕ} (j : ℕ) (a : At d n) (e : d + su
         go (yes w) = (λ c. absurd (own w c), λ c. absurd (c .1 w))
         go (no w) = (λ c. (cut-other b m w .0 c, w), λ c. cut-other b m w .1 (c .0))
 
+-- a place is that of the node that it names
+pub named-place : (D : ℕ) → D ≤ 32 → (p : ℕ) → 0 < p → p < 2 ^ D → p ≡ placeOf D (2 * named D p + 1)
+named-place D l p w h = go (depthOf (named D p)) refl (cut-depth D (λ q. 1) l (named D p) c)
+  where
+    c : Cut D (λ q. 1) (named D p)
+    c = set-cut D (λ q. 1) p w h refl
+
+    low : 1 ≤ named D p
+    low = cut-low D (λ q. 1) l (named D p) c
+
+    go : (d : ℕ) → depthOf (named D p) ≡ d → depthOf (named D p) < D → p ≡ placeOf D (2 * named D p + 1)
+    go d r i =
+        let a : At (depthOf (named D p)) (named D p) = at-depth low in
+        let j : depthOf (named D p) + suc (D - suc (depthOf (named D p))) ≡ D = omega arith in
+        named-once D p (cutPlace D (D - suc (depthOf (named D p))) (named D p)) l w h
+        (cut-place-low D l (D - suc (depthOf (named D p))) a j) (cut-place-high D l (D - suc (depthOf (named D p))) a j)
+        (sym (cut-place-named D l (D - suc (depthOf (named D p))) a j))
+        ∙ cut-place-of D (named D p) low
+
 -- ---- bits are settled by their cuts
 
 pub bits-same : (D : ℕ) → D ≤ 32 → (f g : ℕ → ℕ) → ((p : ℕ) → f p ≤ 1) → ((p : ℕ) → g p ≤ 1) → f 0 ≡ g 0
@@ -80,13 +106,8 @@ pub bits-same : (D : ℕ) → D ≤ 32 → (f g : ℕ → ℕ) → ((p : ℕ) �
 bits-same D l f g sf sg z e p h = go (ℕ-discrete p 0)
   where
     other : (f g : ℕ → ℕ) → ((n : ℕ) → 1 ≤ n → Cut D f n → Cut D g n) → 0 < p → f p ≡ 1 → g p ≡ 1
-    other f g e w s = from (e (named D p) (cut-low D f l (named D p) own) own)
-      where
-        own : Cut D f (named D p)
-        own = record { place = p; low = w; high = h; set = s; names = refl }
-
-        from : Cut D g (named D p) → g p ≡ 1
-        from c = ap g (named-once D p (c .place) l w h (c .low) (c .high) (sym (c .names))) ∙ c .set
+    other f g e w s =
+        let c = set-cut D f p w h s in cut-set D l g p w h (e (named D p) (cut-low D f l (named D p) c) c)
 
     same : 0 < p → Dec (f p ≡ 1) → Dec (g p ≡ 1) → f p ≡ g p
     same w (yes a) b = a ∙ sym (other f g (λ n q. e n q .0) w a)

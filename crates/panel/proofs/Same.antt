@@ -1,0 +1,1 @@
+-- Two good panels of one length with the same cuts have the same bytes.
