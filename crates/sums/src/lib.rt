@@ -1,1 +1,8 @@
 // Words and sums.
+pub mod words; // words, leaf bits, the part of the bytes that the leaf bits fill
+
+pub use words::get_word;
+pub use words::leaf_bit;
+pub use words::leaf_part;
+pub use words::put_leaf_bit;
+pub use words::put_word;
