@@ -1,5 +1,5 @@
 -- Going down from node 1: sums say which nodes are cut and which are leaves, and lead to the leaf of a number.
-use mathlib.Core.Path.{_≡_, refl, sym, ap, _∙_, subst}
+use mathlib.Core.Path.{_≡_, ap, subst}
 use mathlib.Core.Logic.{_↔_, ite}
 use Prim.Native.Nat.{ℕ, zero, suc, _+_, _-_, _*_, _/_, _^_, _≤_, _<_}
 use native.Mathlib.Nat.{zero-add}
@@ -10,10 +10,9 @@ use Rattle.nodes.specs.Depth.{depthOf}
 use Rattle.nodes.proofs.Depths.{At, at-left, at-right, at-root, depth-is}
 use Rattle.sums.specs.Rank.{rank}
 use Rattle.panel.specs.Cuts.{Cut, Leaf, leafNumber}
-use Rattle.panel.proofs.CutBits.{first, first-left}
 use Rattle.panel.proofs.NodeSums.{sum}
 use Rattle.panel.proofs.NodeSums as by-node
-use Rattle.panel.proofs.Places.{byNode, cut-depth, dec-cut}
+use Rattle.panel.proofs.Places.{byNode, cut-depth}
 use Rattle.panel.proofs.Leaves.{GoodBits, same-cuts, start-bit, root-bit, up-bit}
 use Rattle.panel.proofs.Numbering.{number-lt, number-once}
 use Rattle.panel.proofs.Ranks.{firstPlace, sum-count, rank-root, rank-left, rank-right}

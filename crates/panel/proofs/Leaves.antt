@@ -1,17 +1,15 @@
 -- The leaves of good leaf bits: they cover the panel once, and the set bits are the first bits below them.
 use mathlib.Core.Path.{_≡_, refl, sym, ap, _∙_, subst}
 use mathlib.Core.Logic.{_↔_}
-use Prim.Native.Nat.{ℕ, zero, suc, _+_, _-_, _*_, _/_, _%_, _^_, _≤_, _<_}
-use native.Mathlib.Decide.{decLt}
+use Prim.Native.Nat.{ℕ, zero, suc, _+_, _-_, _*_, _/_, _^_, _≤_, _<_}
 use native.Mathlib.Omega.{arith}
-use lib.Pow.{pow-pos}
 use Rattle.nodes.specs.Depth.{depthOf}
-use Rattle.nodes.proofs.Depths.{At, ancestor, at-from, at-below, at-depth, at-ancestor, depth-is, depth-half, below-depth}
-use Rattle.panel.specs.Cuts.{Cut, GoodCuts, Leaf, CoverOnce, OneLeaf, placeOf}
+use Rattle.nodes.proofs.Depths.{At, ancestor, at-from, at-depth, at-ancestor, depth-is, depth-half, below-depth}
+use Rattle.panel.specs.Cuts.{Cut, GoodCuts, Leaf, CoverOnce, placeOf}
 use Rattle.panel.proofs.Covering.{Tree, ancestor-is, cover}
 use Rattle.panel.proofs.CutBits.{first, CutBit, at-first}
 use Rattle.panel.proofs.CutBits as by-node
-use Rattle.panel.proofs.Places.{byNode, cut-low, cut-depth, cut-bit, dec-cut}
+use Rattle.panel.proofs.Places.{byNode, cut-depth, cut-bit, dec-cut}
 
 -- the leaf bits of a good panel of depth D
 pub record GoodBits (D : ℕ) (f : ℕ → ℕ) : Type 0 where

@@ -1,16 +1,16 @@
 -- The trailing zeros of a place are the levels from depth D up to the node whose first bit it is; but for place 0 that node is a right child.
-use mathlib.Core.Path.{_≡_, refl, sym, ap, ap₂, _∙_, subst}
-use mathlib.Core.Logic.{_≢_, _↔_}
+use mathlib.Core.Path.{_≡_, sym, ap, ap₂, _∙_, subst}
+use mathlib.Core.Logic.{_↔_}
 use Prim.Native.Nat.{ℕ, zero, suc, _+_, _-_, _*_, _/_, _%_, _^_, _≤_, _<_}
 use native.Mathlib.Nat.{mul-div-left, add-mul}
-use native.Mathlib.Decide.{decLt, ℕ-discrete}
+use native.Mathlib.Decide.{decLt}
 use native.Mathlib.Omega.{arith}
 use lib.Pow.{pow-pos, pow-add}
 use lib.Count.{trailingZeros, under}
 use Rattle.nodes.specs.Depth.{depthOf}
 use Rattle.nodes.proofs.Depths.{At, at-left, at-right, at-depth, depth-is}
-use Rattle.panel.specs.Cuts.{named, Cut, Leaf}
-use Rattle.panel.proofs.CutBits.{first, CutBit, first-suc, first-right, at-first, bit-names, bit-unique, dec-cut-bit, cut-in, cut-out, cut-bit-depth}
+use Rattle.panel.specs.Cuts.{named, Cut}
+use Rattle.panel.proofs.CutBits.{first, CutBit, first-suc, first-right, at-first, bit-names, dec-cut-bit, cut-in, cut-out, cut-bit-depth}
 
 -- the bit of the depth-D node N, at place N - 2 ^ D
 abbrev pub byNode : ℕ → (ℕ → ℕ) → ℕ → ℕ

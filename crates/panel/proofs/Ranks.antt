@@ -1,9 +1,8 @@
 -- Ranks of leaf bits: they grow at set bits and only there, so each number below the count is the rank of one set bit. A sum is a difference of ranks.
-use mathlib.Core.Path.{_≡_, refl, sym, ap, ap₂, _∙_, subst}
-use Prim.Native.Nat.{ℕ, zero, suc, _+_, _-_, _*_, _/_, _%_, _^_, _≤_, _<_}
+use mathlib.Core.Path.{_≡_, sym, ap, subst}
+use Prim.Native.Nat.{ℕ, zero, suc, _+_, _-_, _*_, _^_, _≤_, _<_}
 use native.Mathlib.Decide.{decLt, le-ind}
 use native.Mathlib.Omega.{arith}
-use lib.Pow.{pow-pos}
 use Rattle.nodes.proofs.Depths.{At, at-left, at-right, at-root}
 use Rattle.sums.specs.Rank.{rank}
 use Rattle.panel.proofs.CutBits.{first, first-left, first-right, at-first}
