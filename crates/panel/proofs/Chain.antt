@@ -60,9 +60,10 @@ module _ {P : ℕ → Type 0} (G : GoodCuts P) {k : ℕ} where
 
     -- where it has no neighbour, its own cut is the last
     pub chain-last : {B : ℕ → Type 0} → edge m ≡ 0 → ((n : ℕ) → B n ↔ (C n ⊎ (n ≡ m))) → (n : ℕ) → B n ↔ Added P (depthOf k) k n
-    chain-last {B} z b n =
-        (λ q. ⊎-elim (c .made n) (λ e. inr (c .rest n (inl e))) (b n .0 q),
-        ⊎-elim (λ p. b n .1 (inl (c .old n p))) (λ f. b n .1 (⊎-elim inl own (c .all n f))))
+    chain-last {B} z b n = (
+      λ q. ⊎-elim (c .made n) (λ e. inr (c .rest n (inl e))) (b n .0 q),
+      ⊎-elim (λ p. b n .1 (inl (c .old n p))) (λ f. b n .1 (⊎-elim inl own (c .all n f))),
+    )
       where
         own : Forced (suc d) m n → C n ⊎ (n ≡ m)
         own (inl e) = inr e

@@ -23,7 +23,8 @@ pub record OneBit (D : ℕ) (f g : ℕ → ℕ) (p v : ℕ) : Type 0 where
 pub cut-same : (D : ℕ) (f g : ℕ → ℕ) → ((p : ℕ) → p < 2 ^ D → f p ≡ g p) → (n : ℕ) → Cut D f n ↔ Cut D g n
 cut-same D f g e n = (
   λ c. record { place = c .place; low = c .low; high = c .high; set = sym (e (c .place) (c .high)) ∙ c .set; names = c .names },
-  λ c. record { place = c .place; low = c .low; high = c .high; set = e (c .place) (c .high) ∙ c .set; names = c .names })
+  λ c. record { place = c .place; low = c .low; high = c .high; set = e (c .place) (c .high) ∙ c .set; names = c .names },
+)
 
 -- a set bit is a cut of the node that its place names, and back
 pub set-cut : (D : ℕ) (f : ℕ → ℕ) (p : ℕ) → 0 < p → p < 2 ^ D → f p ≡ 1 → Cut D f (named D p)
@@ -56,7 +57,8 @@ module _ (D : ℕ) (l : D ≤ 32) {d n : ℕ} (j : ℕ) (a : At d n) (e : d + su
     cut-other : {v : ℕ} → OneBit D f g (cutPlace D j n) v → (m : ℕ) → m ≢ n → Cut D g m ↔ Cut D f m
     cut-other b m z = (
       λ c. record { place = c .place; low = c .low; high = c .high; set = sym (b .other (c .place) (c .high) (λ w. z (apart c w))) ∙ c .set; names = c .names },
-      λ c. record { place = c .place; low = c .low; high = c .high; set = b .other (c .place) (c .high) (λ w. z (apart c w)) ∙ c .set; names = c .names })
+      λ c. record { place = c .place; low = c .low; high = c .high; set = b .other (c .place) (c .high) (λ w. z (apart c w)) ∙ c .set; names = c .names },
+    )
       where
         apart : {h : ℕ → ℕ} (c : Cut D h m) → c .place ≡ cutPlace D j n → m ≡ n
         apart c w = sym (c .names) ∙ ap (named D) w ∙ cut-place-named

@@ -1,2 +1,3 @@
 pub mod Slots
 pub mod Rooms
+pub mod Settled
