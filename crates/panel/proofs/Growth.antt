@@ -14,7 +14,7 @@ use Rattle.panel.specs.Cuts.{Cut, named, Leaf, placeOf}
 use Rattle.panel.proofs.Places.{cut-low, named-once}
 use Rattle.panel.proofs.Leaves.{GoodBits}
 use Rattle.panel.proofs.OneBit.{named-place, cut-set, set-cut}
-use Rattle.panel.proofs.Forced.{Forced, Added, first-added, forcedList, few, listed}
+use Rattle.panel.proofs.ForcedCuts.{Forced, Added, first-added, forcedList, few, listed}
 
 -- ---- counts when bits change
 

@@ -12,7 +12,7 @@ use Rattle.nodes.proofs.Edges.{edge-level}
 use Rattle.sums.specs.Rank.{rank}
 use Rattle.panel.specs.Cuts.{Cut, named, placeOf}
 use Rattle.panel.proofs.Places.{cutPlace, cut-place, cut-low, cut-depth, names-named, named-once}
-use Rattle.panel.proofs.Merging.{Kept}
+use Rattle.panel.proofs.TakingBack.{Kept}
 
 -- g is f with the bit at place p set to v
 pub record OneBit (D : ℕ) (f g : ℕ → ℕ) (p v : ℕ) : Type 0 where
@@ -84,22 +84,17 @@ module _ (D : ℕ) (l : D ≤ 32) {d n : ℕ} (j : ℕ) (a : At d n) (e : d + su
 
 -- a place is that of the node that it names
 pub named-place : (D : ℕ) → D ≤ 32 → (p : ℕ) → 0 < p → p < 2 ^ D → p ≡ placeOf D (2 * named D p + 1)
-named-place D l p w h = go (depthOf (named D p)) refl (cut-depth D (λ q. 1) l (named D p) c)
+named-place D l p w h =
+    let c = set-cut D (λ q. 1) p w h refl in
+    own (cut-low D (λ q. 1) l (named D p) c) (cut-depth D (λ q. 1) l (named D p) c)
   where
-    c : Cut D (λ q. 1) (named D p)
-    c = set-cut D (λ q. 1) p w h refl
-
-    low : 1 ≤ named D p
-    low = cut-low D (λ q. 1) l (named D p) c
-
-    go : (d : ℕ) → depthOf (named D p) ≡ d → depthOf (named D p) < D → p ≡ placeOf D (2 * named D p + 1)
-    go d r i =
-        let a : At (depthOf (named D p)) (named D p) = at-depth low in
-        let j : depthOf (named D p) + suc (D - suc (depthOf (named D p))) ≡ D = omega arith in
-        named-once D p (cutPlace D (D - suc (depthOf (named D p))) (named D p)) l w h
-        (cut-place-low D l (D - suc (depthOf (named D p))) a j) (cut-place-high D l (D - suc (depthOf (named D p))) a j)
-        (sym (cut-place-named D l (D - suc (depthOf (named D p))) a j))
-        ∙ cut-place-of D (named D p) low
+    own : 1 ≤ named D p → depthOf (named D p) < D → p ≡ placeOf D (2 * named D p + 1)
+    own i d =
+        let j : ℕ = D - suc (depthOf (named D p)) in
+        let a : At (depthOf (named D p)) (named D p) = at-depth i in
+        let e : depthOf (named D p) + suc j ≡ D = omega arith in
+        named-once D p (cutPlace D j (named D p)) l w h (cut-place-low D l j a e) (cut-place-high D l j a e) (sym (cut-place-named D l j a e))
+        ∙ cut-place-of D (named D p) i
 
 -- ---- bits are settled by their cuts
 

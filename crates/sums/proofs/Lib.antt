@@ -1,3 +1,4 @@
 pub mod Slots
 pub mod Rooms
 pub mod Settled
+pub mod LeafBits

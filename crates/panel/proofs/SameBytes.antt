@@ -40,7 +40,7 @@ deep-same s t e = ap (λ n. depthOf n + 1) e
 pub cut-of : (s t : List ℕ) → length t ≡ length s → (n : ℕ) → CutOf t n ↔ Cut (deepOf s) (leafBit (deepOf s) t) n
 cut-of s t e n = (λ c. subst (λ D. Cut D (leafBit D t) n) (deep-same s t e) c, λ c. subst (λ D. Cut D (leafBit D t) n) (sym (deep-same s t e)) c)
 
-panel-bits : (s : List ℕ) (D : ℕ) → Fits s D → 8 * length s ≡ 2 ^ (D + 2)
+pub panel-bits : (s : List ℕ) (D : ℕ) → Fits s D → 8 * length s ≡ 2 ^ (D + 2)
 panel-bits s D f =
     let e : 2 ^ (D + 2) ≡ 2 ^ (D - 1) * 2 ^ 3 = ap (λ (x : ℕ). 2 ^ x) (let g : D + 2 ≡ D - 1 + 3 = omega (arith, f .low) in g) ∙ pow-add 2 (D - 1) 3 in
     omega (arith, f .long)
