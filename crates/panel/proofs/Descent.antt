@@ -1,12 +1,11 @@
 -- Going down from node 1: sums say which nodes are cut and which are leaves, and lead to the leaf of a number.
-use mathlib.Core.Path.{_≡_, ap, subst}
+use mathlib.Core.Path.{_≡_, subst}
 use mathlib.Core.Logic.{_↔_, ite}
 use Prim.Native.Nat.{ℕ, zero, suc, _+_, _-_, _*_, _/_, _^_, _≤_, _<_}
 use native.Mathlib.Nat.{zero-add}
 use native.Mathlib.Decide.{decLt, decLe}
 use native.Mathlib.Omega.{arith}
 use lib.Pow.{pow-pos}
-use Rattle.nodes.specs.Depth.{depthOf}
 use Rattle.nodes.proofs.Depths.{At, at-left, at-right, at-root, depth-is}
 use Rattle.sums.specs.Rank.{rank}
 use Rattle.panel.specs.Cuts.{Cut, Leaf, leafNumber}
@@ -15,7 +14,7 @@ use Rattle.panel.proofs.NodeSums as by-node
 use Rattle.panel.proofs.Places.{byNode, cut-depth}
 use Rattle.panel.proofs.Leaves.{GoodBits, same-cuts, start-bit, root-bit, up-bit}
 use Rattle.panel.proofs.Numbering.{number-lt, number-once}
-use Rattle.panel.proofs.Ranks.{firstPlace, sum-count, rank-root, rank-left, rank-right}
+use Rattle.panel.proofs.Ranks.{sum-count, number-root, number-left, number-right}
 
 -- the leaf with i leaves left of it below n, which stands j levels above depth D
 unfoldable pub find : (ℕ → ℕ) → ℕ → ℕ → ℕ → ℕ
@@ -35,10 +34,6 @@ module _ (D : ℕ) (f : ℕ → ℕ) where
 
   pub reached-right : (n : ℕ) → Cut D f n → Reached (2 * n + 1)
   reached-right n c h = subst (Cut D f) (let e : n ≡ (2 * n + 1) / 2 = omega arith in e) c
-
-  -- a leaf's number, where the leaf stands j levels above depth D
-  pub number-at : (d j n : ℕ) → At d n → d + j ≡ D → leafNumber D f n ≡ rank f (firstPlace D j n)
-  number-at d j n a e = ap (λ x. rank f (n * 2 ^ x - 2 ^ D)) (let h : D - depthOf n ≡ j = omega (arith, depth-is a) in h)
 
 module _ (D : ℕ) (f : ℕ → ℕ) (G : GoodBits D f) where
   small-bit : (N : ℕ) → byNode D f N ≤ 1
@@ -85,15 +80,16 @@ module _ (D : ℕ) (f : ℕ → ℕ) (G : GoodBits D f) where
 
   -- ---- leaf by number
 
-  abbrev Found : ℕ → ℕ → ℕ → ℕ → Type 0
-  Found j n i k = Leaf (Cut D f) k × (leafNumber D f k ≡ rank f (firstPlace D j n) + i)
+  -- k is the leaf with i leaves left of it below n
+  abbrev Found : ℕ → ℕ → ℕ → Type 0
+  Found n i k = Leaf (Cut D f) k × (leafNumber D f k ≡ leafNumber D f n + i)
 
-  here : (d j n i : ℕ) → At d n → d + j ≡ D → Reached D f n → (Cut D f n → ⊥) → i < sum (byNode D f) j n → Found j n i n
-  here d j n i a e r z h = (reached-leaf d j n a e r z, omega (arith, number-at D f d j n a e, uncut-sum d j n a e z))
+  here : (d j n i : ℕ) → At d n → d + j ≡ D → Reached D f n → (Cut D f n → ⊥) → i < sum (byNode D f) j n → Found n i n
+  here d j n i a e r z h = (reached-leaf d j n a e r z, omega (arith, uncut-sum d j n a e z))
 
   -- the descent comes to the leaf with i leaves left of it below n
   pub find-is : (d j n i : ℕ) → At d n → d + j ≡ D → Reached D f n → i < sum (byNode D f) j n
-      → Leaf (Cut D f) (find (byNode D f) j n i) × (leafNumber D f (find (byNode D f) j n i) ≡ rank f (firstPlace D j n) + i)
+      → Leaf (Cut D f) (find (byNode D f) j n i) × (leafNumber D f (find (byNode D f) j n i) ≡ leafNumber D f n + i)
   unfolding find sum
   find-is d zero n i a e r h = here d 0 n i a e r (bottom-uncut n (subst (λ x. At x n) (let q : d ≡ D = omega arith in q) a)) h
   find-is d (suc j) n i a e r h =
@@ -104,19 +100,19 @@ module _ (D : ℕ) (f : ℕ → ℕ) (G : GoodBits D f) where
       left = sum (byNode D f) j (2 * n)
 
       go : (p : Dec (2 ≤ sum (byNode D f) (suc j) n)) (q : Dec (i < left))
-          → (Reached D f (2 * n) → i < left → Found j (2 * n) i (find (byNode D f) j (2 * n) i))
-          → (Reached D f (2 * n + 1) → i - left < sum (byNode D f) j (2 * n + 1) → Found j (2 * n + 1) (i - left) (find (byNode D f) j (2 * n + 1) (i - left)))
-          → Found (suc j) n i (ite p (ite q (find (byNode D f) j (2 * n) i) (find (byNode D f) j (2 * n + 1) (i - left))) n)
+          → (Reached D f (2 * n) → i < left → Found (2 * n) i (find (byNode D f) j (2 * n) i))
+          → (Reached D f (2 * n + 1) → i - left < sum (byNode D f) j (2 * n + 1) → Found (2 * n + 1) (i - left) (find (byNode D f) j (2 * n + 1) (i - left)))
+          → Found n i (ite p (ite q (find (byNode D f) j (2 * n) i) (find (byNode D f) j (2 * n + 1) (i - left))) n)
       go (no p) q l m = here d (suc j) n i a e r (λ z. p (cut-sum d (suc j) n a e .0 z)) h
       go (yes p) (yes q) l m =
-          let (x, y) = l (reached-left D f n (cut-sum d (suc j) n a e .1 p)) q in (x, omega (arith, rank-left D f j n))
+          let (x, y) = l (reached-left D f n (cut-sum d (suc j) n a e .1 p)) q in (x, omega (arith, number-left D f d j n a e))
       go (yes p) (no q) l m =
-          let (x, y) = m (reached-right D f n (cut-sum d (suc j) n a e .1 p)) (omega arith) in (x, omega (arith, rank-right D f d j n a e))
+          let (x, y) = m (reached-right D f n (cut-sum d (suc j) n a e .1 p)) (omega arith) in (x, omega (arith, number-right D f d j n a e))
 
   -- from node 1 it comes to the leaf of number i ..
   pub by-number : (i : ℕ) → i < rank f (2 ^ D) → Leaf (Cut D f) (find (byNode D f) D 1 i) × (leafNumber D f (find (byNode D f) D 1 i) ≡ i)
   by-number i h =
-      let (l, e) = find-is 0 D 1 i at-root (zero-add D) (reached-root D f) (omega (arith, sum-count D f)) in (l, omega (arith, rank-root D f))
+      let (l, e) = find-is 0 D 1 i at-root (zero-add D) (reached-root D f) (omega (arith, sum-count D f)) in (l, omega (arith, number-root D f))
 
   -- .. and every leaf is found by its number
   pub by-leaf : (k : ℕ) → Leaf (Cut D f) k → find (byNode D f) D 1 (leafNumber D f k) ≡ k

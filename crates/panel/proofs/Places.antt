@@ -5,7 +5,7 @@ use Prim.Native.Nat.{ℕ, zero, suc, _+_, _-_, _*_, _/_, _%_, _^_, _≤_, _<_}
 use native.Mathlib.Nat.{mul-div-left, add-mul}
 use native.Mathlib.Decide.{decLt}
 use native.Mathlib.Omega.{arith}
-use lib.Pow.{pow-pos, pow-add}
+use lib.Pow.{pow-pos, pow-mono, pow-add}
 use lib.Count.{trailingZeros, under}
 use Rattle.nodes.specs.Depth.{depthOf}
 use Rattle.nodes.proofs.Depths.{At, at-left, at-right, at-depth, depth-is}
@@ -109,6 +109,9 @@ module _ (D : ℕ) (f : ℕ → ℕ) (l : D ≤ 32) where
   cut-depth n c =
       let (j, m, x) = place-name D (c .place) (c .low) (c .high) in
       omega (arith, ap depthOf (sym (c .names) ∙ names-named D (c .place) j m l x), depth-is (x .at), x .levels)
+
+  pub cut-range : (n : ℕ) → Cut D f n → n < 2 ^ D
+  cut-range n c = omega (arith, at-depth {n = n} (cut-low n c), pow-mono (cut-depth n c))
 
   -- a node suc j levels above depth D is cut where the bit of its right child is set
   pub cut-at : (d j n : ℕ) → At d n → d + suc j ≡ D → (Cut D f n ↔ (f ((2 * n + 1) * 2 ^ j - 2 ^ D) ≡ 1))

@@ -1,10 +1,12 @@
 -- Ranks of leaf bits: they grow at set bits and only there, so each number below the count is the rank of one set bit. A sum is a difference of ranks.
-use mathlib.Core.Path.{_≡_, sym, ap, subst}
+use mathlib.Core.Path.{_≡_, sym, ap, _∙_, subst}
 use Prim.Native.Nat.{ℕ, zero, suc, _+_, _-_, _*_, _^_, _≤_, _<_}
 use native.Mathlib.Decide.{decLt, le-ind}
 use native.Mathlib.Omega.{arith}
-use Rattle.nodes.proofs.Depths.{At, at-left, at-right, at-root}
+use Rattle.nodes.specs.Depth.{depthOf}
+use Rattle.nodes.proofs.Depths.{At, at-left, at-right, at-root, depth-is}
 use Rattle.sums.specs.Rank.{rank}
+use Rattle.panel.specs.Cuts.{leafNumber}
 use Rattle.panel.proofs.CutBits.{first, first-left, first-right, at-first}
 use Rattle.panel.proofs.NodeSums.{sum}
 use Rattle.panel.proofs.Places.{byNode}
@@ -58,26 +60,40 @@ module _ (D : ℕ) (f : ℕ → ℕ) where
         ap (rank f) (let r : firstPlace D j (2 * n + 1) + 2 ^ j ≡ firstPlace D (suc j) n + 2 ^ suc j = omega (arith, place-right d j n a e, first-left j n) in r),
       )
 
-  -- left of node 1's bits stand none, of a left child's as many as of its parent's ..
-  pub rank-root : rank f (firstPlace D D 1) ≡ 0
-  unfolding rank
-  rank-root = ap (rank f) (let q : firstPlace D D 1 ≡ 0 = omega arith in q)
-
-  pub rank-left : (j n : ℕ) → rank f (firstPlace D j (2 * n)) ≡ rank f (firstPlace D (suc j) n)
-  rank-left j n = ap (λ x. rank f (x - 2 ^ D)) (sym (first-left j n))
-
-  -- .. and of a right child's its sibling's more
-  pub rank-right : (d j n : ℕ) → At d n → d + suc j ≡ D
-      → rank f (firstPlace D j (2 * n + 1)) ≡ rank f (firstPlace D (suc j) n) + sum (byNode D f) j (2 * n)
-  rank-right d j n a e =
-      omega (
-        arith,
-        sum-rank (suc d) j (2 * n) (at-left a) (omega arith),
-        ap (rank f) (place-right d j n a e),
-        ap (λ x. rank f (x - 2 ^ D)) (first-left j n),
-      )
-
   -- node 1's sum is the count
   pub sum-count : sum (byNode D f) D 1 ≡ rank f (2 ^ D)
+  unfolding rank
   sum-count =
-      omega (arith, sum-rank 0 D 1 at-root (omega arith), rank-root, ap (rank f) (let r : firstPlace D D 1 + 2 ^ D ≡ 2 ^ D = omega arith in r))
+      omega (
+        arith,
+        sum-rank 0 D 1 at-root (omega arith),
+        ap (rank f) (let r : firstPlace D D 1 ≡ 0 = omega arith in r),
+        ap (rank f) (let r : firstPlace D D 1 + 2 ^ D ≡ 2 ^ D = omega arith in r),
+      )
+
+  -- ---- how many bits are set left of a node's own: the number of the node, where it is a leaf
+
+  pub number-at : (d j n : ℕ) → At d n → d + j ≡ D → leafNumber D f n ≡ rank f (firstPlace D j n)
+  number-at d j n a e = ap (λ x. rank f (n * 2 ^ x - 2 ^ D)) (let h : D - depthOf n ≡ j = omega (arith, depth-is a) in h)
+
+  -- none left of node 1's ..
+  pub number-root : leafNumber D f 1 ≡ 0
+  unfolding rank
+  number-root = number-at 0 D 1 at-root (omega arith) ∙ ap (rank f) (let q : firstPlace D D 1 ≡ 0 = omega arith in q)
+
+  -- .. as many left of a left child's as of its parent's ..
+  pub number-left : (d j n : ℕ) → At d n → d + suc j ≡ D → leafNumber D f (2 * n) ≡ leafNumber D f n
+  number-left d j n a e =
+      number-at (suc d) j (2 * n) (at-left a) (omega arith) ∙ ap (λ x. rank f (x - 2 ^ D)) (sym (first-left j n)) ∙ sym (number-at d (suc j) n a e)
+
+  -- .. and left of a right child's its sibling's more
+  pub number-right : (d j n : ℕ) → At d n → d + suc j ≡ D → leafNumber D f (2 * n + 1) ≡ leafNumber D f n + sum (byNode D f) j (2 * n)
+  number-right d j n a e =
+      omega (
+        arith,
+        number-left d j n a e,
+        number-at (suc d) j (2 * n) (at-left a) (omega arith),
+        number-at (suc d) j (2 * n + 1) (at-right a) (omega arith),
+        sum-rank (suc d) j (2 * n) (at-left a) (omega arith),
+        ap (rank f) (place-right d j n a e),
+      )
