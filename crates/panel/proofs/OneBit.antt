@@ -6,13 +6,9 @@ use native.Mathlib.Decide.{ℕ-discrete}
 use native.Mathlib.Omega.{arith}
 use lib.Pow.{pow-pos}
 use Rattle.nodes.specs.Depth.{depthOf}
-use Rattle.nodes.specs.Neighbours.{edge}
 use Rattle.nodes.proofs.Depths.{At, at-depth, depth-right}
-use Rattle.nodes.proofs.Edges.{edge-level}
-use Rattle.sums.specs.Rank.{rank}
 use Rattle.panel.specs.Cuts.{Cut, named, placeOf}
 use Rattle.panel.proofs.Places.{cutPlace, cut-place, cut-low, cut-depth, names-named, named-once}
-use Rattle.panel.proofs.TakingBack.{Kept}
 
 -- g is f with the bit at place p set to v
 pub record OneBit (D : ℕ) (f g : ℕ → ℕ) (p v : ℕ) : Type 0 where
@@ -114,20 +110,3 @@ bits-same D l f g sf sg z e p h = go (ℕ-discrete p 0)
     go : Dec (p ≡ 0) → f p ≡ g p
     go (yes w) = ap f w ∙ z ∙ ap g (sym w)
     go (no w) = same (omega arith) (ℕ-discrete (f p) 1) (ℕ-discrete (g p) 1)
-
--- ---- merge
-
-module _ (D : ℕ) (l : D ≤ 32) {d q : ℕ} (j : ℕ) (a : At d q) (e : d + suc j ≡ D) {f g : ℕ → ℕ} where
-  -- the cut of q alone is taken back
-  pub merge-alone : edge q ≡ 0 → OneBit D f g (cutPlace D j q) 0 → (n : ℕ) → Cut D g n ↔ Kept (Cut D f) q n
-  merge-alone z b n =
-      let i = drop-iff D l j a e b n in
-      (λ c. (i .0 c .0, i .0 c .1, omega (arith, cut-low D g l n c)), λ k. i .1 (k .0, k .1))
-
-  -- the cuts of q and of its neighbour are taken back
-  pub merge-both : {h : ℕ → ℕ} → edge q ≢ 0 → OneBit D f h (cutPlace D j q) 0 → OneBit D h g (cutPlace D j (edge q)) 0
-      → (n : ℕ) → Cut D g n ↔ Kept (Cut D f) q n
-  merge-both z b c n =
-      let i = drop-iff D l j a e b n in
-      let k = drop-iff D l j (edge-level d q a z) e c n in
-      (λ x. (i .0 (k .0 x .0) .0, i .0 (k .0 x .0) .1, k .0 x .1), λ x. k .1 (i .1 (x .0, x .1), x .2))

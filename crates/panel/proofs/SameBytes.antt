@@ -6,33 +6,17 @@ use Prim.Native.Nat.{ℕ, zero, suc, _+_, _-_, _*_, _^_, _≤_, _<_}
 use native.Mathlib.Omega.{arith}
 use lib.ListN.{length}
 use lib.Pow.{pow-add}
-use Rattle.bits.proofs.Laws.{Bytes, bit-lt}
+use Rattle.bits.proofs.Laws.{Bytes}
 use Rattle.nodes.specs.Depth.{depthOf}
 use Rattle.sums.specs.Words.{leafBit}
 use Rattle.sums.specs.Sums.{Right}
 use Rattle.sums.proofs.Settled.{bytes-settled}
 use Rattle.panel.specs.Cuts.{Cut}
 use Rattle.panel.specs.Panels.{Fits, deepOf, CutOf, Good}
-use Rattle.panel.proofs.Leaves.{GoodBits}
+use Rattle.panel.proofs.GoodPanels.{leaf-bit-small}
 use Rattle.panel.proofs.OneBit.{bits-same}
 
--- ---- a panel's leaf bits
-
-pub leaf-bit-small : (D : ℕ) (bs : List ℕ) (p : ℕ) → leafBit D bs p ≤ 1
-unfolding leafBit
-leaf-bit-small D bs p = omega (arith, bit-lt bs (3 * 2 ^ D + p))
-
--- a good panel's leaf bits are good
-pub good-bits : {s : List ℕ} → Good s → GoodBits (deepOf s) (leafBit (deepOf s) s)
-good-bits {s} G = record {
-  deep = omega (arith, G .fits .high);
-  small = leaf-bit-small (deepOf s) s;
-  start = G .first;
-  cuts = G .cuts;
-}
-
--- ---- panels of one length
-
+-- the depth comes from the length
 pub deep-same : (s t : List ℕ) → length t ≡ length s → deepOf t ≡ deepOf s
 deep-same s t e = ap (λ n. depthOf n + 1) e
 
@@ -40,6 +24,7 @@ deep-same s t e = ap (λ n. depthOf n + 1) e
 pub cut-of : (s t : List ℕ) → length t ≡ length s → (n : ℕ) → CutOf t n ↔ Cut (deepOf s) (leafBit (deepOf s) t) n
 cut-of s t e n = (λ c. subst (λ D. Cut D (leafBit D t) n) (deep-same s t e) c, λ c. subst (λ D. Cut D (leafBit D t) n) (sym (deep-same s t e)) c)
 
+-- a panel is all words
 pub panel-bits : (s : List ℕ) (D : ℕ) → Fits s D → 8 * length s ≡ 2 ^ (D + 2)
 panel-bits s D f =
     let e : 2 ^ (D + 2) ≡ 2 ^ (D - 1) * 2 ^ 3 = ap (λ (x : ℕ). 2 ^ x) (let g : D + 2 ≡ D - 1 + 3 = omega (arith, f .low) in g) ∙ pow-add 2 (D - 1) 3 in
