@@ -190,6 +190,13 @@ smallest-iff e s = record {
   least = λ r G sub n q. s .least r G sub n (e n .1 q);
 }
 
+pub smallest-of : {P R Q : ℕ → Type 0} → ((n : ℕ) → (P n ↔ R n)) → Smallest P Q → Smallest R Q
+smallest-of e s = record {
+  good = s .good;
+  holds = λ n r. s .holds n (e n .1 r);
+  least = λ r G sub. s .least r G (λ n p. sub n (e n .0 p));
+}
+
 -- a smallest good set lies in every decided good set that holds as much
 pub smallest-in : {P Q R : ℕ → Type 0} → Smallest P Q → ((n : ℕ) → Dec (R n)) → GoodCuts R → ((n : ℕ) → P n → R n) → (n : ℕ) → Q n → R n
 smallest-in {P} {Q} {R} s dec G sub n q =

@@ -1,6 +1,6 @@
 -- How many leaves a split makes: at least one more, and at most two more for each level of the leaf.
 use mathlib.Core.Path.{_≡_, refl, sym, ap, _∙_, subst}
-use mathlib.Core.Logic.{_≢_, _⊎_, inl, inr, ⊎-elim, _↔_, ite, if-pos, if-neg}
+use mathlib.Core.Logic.{_≢_, _⊎_, inl, inr, ⊎-elim, _↔_, Iff·symm, Iff·trans, ite, if-pos, if-neg}
 use mathlib.Core.List.{List, [], _∷_, map, Memᴰ·map, List·Memᴰ, List·Memᴰ·head, List·Memᴰ·tail, List·Memᴰ·not-nil, List·Memᴰ·cases-cons}
 use Prim.Native.Nat.{ℕ, zero, suc, _+_, _-_, _*_, _/_, _^_, _≤_, _<_}
 use native.Mathlib.Decide.{ℕ-discrete, decLt}
@@ -10,11 +10,15 @@ use lib.Pow.{pow-pos}
 use Rattle.nodes.specs.Depth.{depthOf}
 use Rattle.nodes.proofs.Depths.{At, at-depth}
 use Rattle.sums.specs.Rank.{rank}
+use Rattle.sums.specs.Words.{leafBit}
 use Rattle.panel.specs.Cuts.{Cut, named, Leaf, placeOf}
-use Rattle.panel.proofs.Places.{cut-low, named-once}
+use Rattle.panel.specs.Panels.{deepOf, CutOf, Good, LeafOf, leafCount}
+use Rattle.panel.specs.Calls.{SplitAt}
 use Rattle.panel.proofs.Leaves.{GoodBits}
+use Rattle.panel.proofs.GoodPanels.{good-bits, word-count}
+use Rattle.panel.proofs.SameBytes.{deep-same, cut-of, dec-cuts}
 use Rattle.panel.proofs.OneBit.{named-place, cut-set, set-cut}
-use Rattle.panel.proofs.ForcedCuts.{Forced, Added, first-added, forcedList, few, listed}
+use Rattle.panel.proofs.ForcedCuts.{Forced, Added, first-added, forcedList, few, listed, smallest-iff-added}
 
 -- ---- counts when bits change
 
@@ -140,3 +144,31 @@ module _ (D : ℕ) (f g : ℕ → ℕ) (F : GoodBits D f) (H : GoodBits D g) (k 
         where
           was : f (c .place) ≢ 1
           was s = l .uncut (record { place = c .place; low = c .low; high = c .high; set = s; names = c .names })
+
+-- the count grows by at least one, and by at most two for each level of the leaf
+pub split-grows : {s t : List ℕ} → Good s → {k : ℕ} → LeafOf s k → SplitAt s k t → (leafCount s < leafCount t) × (leafCount t ≤ leafCount s + 2 * depthOf k)
+split-grows {s} {t} G {k} l a =
+    (omega (arith, cs, ct, split-more (deepOf s) f g (good-bits s G) after k l cuts), omega (arith, cs, ct, split-few (deepOf s) f g (good-bits s G) after k l cuts))
+  where
+    f : ℕ → ℕ
+    f = leafBit (deepOf s) s
+
+    g : ℕ → ℕ
+    g = leafBit (deepOf s) t
+
+    e : deepOf t ≡ deepOf s
+    e = deep-same s t (a .long)
+
+    after : GoodBits (deepOf s) g
+    after = subst (λ D. GoodBits D (leafBit D t)) e (good-bits t (a .good))
+
+    cs : leafCount s ≡ rank f (2 ^ deepOf s)
+    cs = word-count (deepOf s) s (G .right .sums)
+
+    ct : leafCount t ≡ rank g (2 ^ deepOf s)
+    ct = word-count (deepOf t) t (a .good .right .sums) ∙ ap (λ D. rank (leafBit D t) (2 ^ D)) e
+
+    cuts : (n : ℕ) → Cut (deepOf s) g n ↔ Added (CutOf s) (depthOf k) k n
+    cuts n =
+        Iff·trans (Iff·symm (cut-of s t (a .long) n))
+        (smallest-iff-added (G .cuts) (dec-cuts G) (depthOf k) k (at-depth (omega (arith, l .low))) (λ h. l .parent) (a .cuts) n)

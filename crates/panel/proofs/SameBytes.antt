@@ -13,6 +13,7 @@ use Rattle.sums.specs.Sums.{Right}
 use Rattle.sums.proofs.Settled.{bytes-settled}
 use Rattle.panel.specs.Cuts.{Cut}
 use Rattle.panel.specs.Panels.{Fits, deepOf, CutOf, Good}
+use Rattle.panel.proofs.Places.{dec-cut}
 use Rattle.panel.proofs.GoodPanels.{leaf-bit-small}
 use Rattle.panel.proofs.OneBit.{bits-same}
 
@@ -23,6 +24,10 @@ deep-same s t e = ap (λ n. depthOf n + 1) e
 -- the cuts of a panel as long as s, by the depth of s
 pub cut-of : (s t : List ℕ) → length t ≡ length s → (n : ℕ) → CutOf t n ↔ Cut (deepOf s) (leafBit (deepOf s) t) n
 cut-of s t e n = (λ c. subst (λ D. Cut D (leafBit D t) n) (deep-same s t e) c, λ c. subst (λ D. Cut D (leafBit D t) n) (sym (deep-same s t e)) c)
+
+-- whether a node is cut is decided
+pub dec-cuts : {t : List ℕ} → Good t → (n : ℕ) → Dec (CutOf t n)
+dec-cuts {t} G = dec-cut (deepOf t) (leafBit (deepOf t) t) (omega (arith, G .fits .high))
 
 -- a panel is all words
 pub panel-bits : (s : List ℕ) (D : ℕ) → Fits s D → 8 * length s ≡ 2 ^ (D + 2)
