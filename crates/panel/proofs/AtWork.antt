@@ -1,22 +1,22 @@
 -- Split and merge change leaf bits, then make the sums right. What they leave is the panel that the call promises.
-use mathlib.Core.Path.{_≡_, refl, sym, ap, _∙_, subst}
-use mathlib.Core.Logic.{_≢_, _⊎_, inl, inr, ⊎-elim, _↔_, Iff·rfl, Iff·symm, Iff·trans}
+use mathlib.Core.Path.{_≡_, refl, sym, _∙_, subst}
+use mathlib.Core.Logic.{_≢_, _⊎_, inl, inr, ⊎-elim, _↔_, Iff·symm, Iff·trans}
 use mathlib.Core.List.{List}
-use Prim.Native.Nat.{ℕ, zero, suc, _+_, _-_, _*_, _/_, _^_, _≤_, _<_}
+use Prim.Native.Nat.{ℕ, suc, _+_, _-_, _*_, _/_, _^_, _≤_, _<_}
 use native.Mathlib.Omega.{arith}
 use lib.ListN.{length}
 use lib.Pow.{pow-mono}
 use Rattle.bits.specs.Bits.{bit}
 use Rattle.nodes.specs.Depth.{depthOf}
 use Rattle.nodes.specs.Neighbours.{edge}
-use Rattle.nodes.proofs.Depths.{At, at-depth, depth-is, depth-half}
+use Rattle.nodes.proofs.Depths.{at-depth, depth-is, depth-half}
 use Rattle.nodes.proofs.Edges.{edge-depth}
 use Rattle.sums.specs.Words.{leafBit, putLeafBit}
 use Rattle.sums.specs.Sums.{Right, Summed}
 use Rattle.sums.proofs.LeafBits.{length-putLeafBit, leaf-put-same, leaf-put-other, head-put}
 use Rattle.sums.proofs.Settled.{right-again, summed-leaf}
-use Rattle.panel.specs.Cuts.{Cut, GoodCuts, Smallest, Leaf, placeOf}
-use Rattle.panel.specs.Panels.{Fits, deepOf, RightLength, CutOf, Good, LeafOf}
+use Rattle.panel.specs.Cuts.{Cut, GoodCuts, placeOf}
+use Rattle.panel.specs.Panels.{Fits, deepOf, CutOf, Good, LeafOf}
 use Rattle.panel.specs.Calls.{SplitAt, Together, MergeAt}
 use Rattle.panel.proofs.Places.{cutPlace, cut-low, cut-depth}
 use Rattle.panel.proofs.ForcedCuts.{Added, good-iff, smallest-iff}

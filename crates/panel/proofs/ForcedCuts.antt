@@ -4,7 +4,7 @@ use mathlib.Core.Path.{_≡_, refl, sym, ap, _∙_, subst}
 use mathlib.Core.Bool.{true, decide, decide-iff}
 use mathlib.Core.Logic.{_≢_, _⊎_, inl, inr, ⊎-elim, ⊎-map, _↔_, Iff·symm}
 use mathlib.Core.List.{List, [], _∷_, List·Memᴰ, List·Memᴰ·head, List·Memᴰ·tail, List·Memᴰ·not-nil, List·Memᴰ·cases-cons}
-use Prim.Native.Nat.{ℕ, zero, suc, _+_, _*_, _/_, _^_, _≤_, _<_}
+use Prim.Native.Nat.{ℕ, zero, suc, _*_, _/_, _≤_}
 use native.Mathlib.Decide.{ℕ-discrete}
 use native.Mathlib.Omega.{arith}
 use lib.ListN.{length}
@@ -12,7 +12,7 @@ use lib.Pow.{pow-pos}
 use Rattle.nodes.specs.Neighbours.{edge}
 use Rattle.nodes.proofs.Depths.{At, at-parent}
 use Rattle.nodes.proofs.Edges.{edge-root, edge-mutual, edge-level, edge-quarter}
-use Rattle.panel.specs.Cuts.{GoodCuts, Smallest, Leaf}
+use Rattle.panel.specs.Cuts.{GoodCuts, Smallest}
 
 -- ---- good sets
 

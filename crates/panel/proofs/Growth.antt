@@ -1,14 +1,13 @@
 -- How many leaves a split makes: at least one more, and at most two more for each level of the leaf.
 use mathlib.Core.Path.{_≡_, refl, sym, ap, _∙_, subst}
 use mathlib.Core.Logic.{_≢_, _⊎_, inl, inr, ⊎-elim, _↔_, Iff·symm, Iff·trans, ite, if-pos, if-neg}
-use mathlib.Core.List.{List, [], _∷_, map, Memᴰ·map, List·Memᴰ, List·Memᴰ·head, List·Memᴰ·tail, List·Memᴰ·not-nil, List·Memᴰ·cases-cons}
-use Prim.Native.Nat.{ℕ, zero, suc, _+_, _-_, _*_, _/_, _^_, _≤_, _<_}
+use mathlib.Core.List.{List, [], _∷_, map, Memᴰ·map, List·Memᴰ, List·Memᴰ·not-nil, List·Memᴰ·cases-cons}
+use Prim.Native.Nat.{ℕ, zero, suc, _+_, _-_, _*_, _^_, _≤_, _<_}
 use native.Mathlib.Decide.{ℕ-discrete, decLt}
 use native.Mathlib.Omega.{arith}
 use lib.ListN.{length, length-map}
-use lib.Pow.{pow-pos}
 use Rattle.nodes.specs.Depth.{depthOf}
-use Rattle.nodes.proofs.Depths.{At, at-depth}
+use Rattle.nodes.proofs.Depths.{at-depth}
 use Rattle.sums.specs.Rank.{rank}
 use Rattle.sums.specs.Words.{leafBit}
 use Rattle.panel.specs.Cuts.{Cut, named, Leaf, placeOf}
@@ -18,7 +17,7 @@ use Rattle.panel.proofs.Leaves.{GoodBits}
 use Rattle.panel.proofs.GoodPanels.{good-bits, word-count}
 use Rattle.panel.proofs.SameBytes.{deep-same, cut-of, dec-cuts}
 use Rattle.panel.proofs.OneBit.{named-place, cut-set, set-cut}
-use Rattle.panel.proofs.ForcedCuts.{Forced, Added, first-added, forcedList, few, listed, smallest-iff-added}
+use Rattle.panel.proofs.ForcedCuts.{Added, first-added, forcedList, few, listed, smallest-iff-added}
 
 -- ---- counts when bits change
 

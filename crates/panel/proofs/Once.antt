@@ -1,15 +1,14 @@
 -- Two results that one input allows are equal, for every call on a panel: what is done is settled by cuts, and cuts settle the bytes.
-use mathlib.Core.Path.{_≡_, refl, sym, ap, _∙_, subst}
-use mathlib.Core.Logic.{_⊎_, inl, inr, _↔_, Iff·symm, Iff·trans}
+use mathlib.Core.Path.{_≡_, sym, ap, _∙_}
+use mathlib.Core.Logic.{inl, inr, Iff·symm, Iff·trans}
 use mathlib.Core.List.{List, [], _∷_, _++_}
 use Prim.Native.Nat.{ℕ, _-_, _^_, _<_}
 use native.Mathlib.Omega.{arith}
-use lib.ListN.{length}
 use Rattle.bits.proofs.Laws.{Bytes}
 use Rattle.nodes.specs.Table.{Row, unless, Answers, Outcome}
 use Rattle.nodes.proofs.Tables.{answers-one, outcome-one}
 use Rattle.panel.specs.Panels.{Good, leafCount}
-use Rattle.panel.specs.Calls.{panelRows, leafRows, Judged, Count, LeafBits, LeafNumbered, LeafAt, NumberOf, Fresh, Open, SplitAt, Split, MergeAt, Merge}
+use Rattle.panel.specs.Calls.{panelRows, Judged, Count, LeafBits, LeafNumbered, LeafAt, NumberOf, Fresh, Open, SplitAt, Split, MergeAt, Merge}
 use Rattle.panel.proofs.ForcedCuts.{smallest-one}
 use Rattle.panel.proofs.GoodPanels.{number-once}
 use Rattle.panel.proofs.SameBytes.{dec-cuts, bytes-same}

@@ -1,16 +1,15 @@
 -- The leaf bits settle every word: a sum is that of its children's words, and the words and bits 0 and 1 make the whole panel.
-use mathlib.Core.Path.{_≡_, refl, sym, ap, ap₂, _∙_, subst}
-use mathlib.Core.Logic.{_⊎_, inl, inr, ⊎-elim}
+use mathlib.Core.Path.{_≡_, sym, ap, ap₂, _∙_}
+use mathlib.Core.Logic.{_⊎_, inr, ⊎-elim}
 use mathlib.Core.List.{List}
 use Prim.Native.Nat.{ℕ, zero, suc, _+_, _-_, _*_, _^_, _≤_, _<_}
 use native.Mathlib.Omega.{arith}
 use lib.ListN.{length}
 use Rattle.bits.specs.Bits.{bit}
 use Rattle.bits.proofs.Laws.{Bytes, run-ext, le-or-lt}
-use Rattle.nodes.specs.Depth.{depthOf}
 use Rattle.nodes.proofs.Depths.{pow-next, depth-zero}
 use Rattle.sums.specs.Words.{width, word, leafBit}
-use Rattle.sums.specs.Sums.{SumsRight, Right, NoSum, Summed}
+use Rattle.sums.specs.Sums.{SumsRight, Right, Summed}
 use Rattle.sums.proofs.Slots.{from, wide, from-zero, leaf-word, words-ext}
 
 module _ (D : ℕ) (xs ys : List ℕ) (sx : SumsRight D xs) (sy : SumsRight D ys) (e : (p : ℕ) → p < 2 ^ D → leafBit D xs p ≡ leafBit D ys p) where
