@@ -18,9 +18,9 @@ use Rattle.sums.proofs.Settled.{right-again, summed-leaf}
 use Rattle.panel.specs.Cuts.{Cut, GoodCuts, placeOf}
 use Rattle.panel.specs.Panels.{Fits, deepOf, CutOf, Good, LeafOf}
 use Rattle.panel.specs.Calls.{SplitAt, Together, MergeAt}
-use Rattle.panel.proofs.Places.{cutPlace, cut-low, cut-depth}
+use Rattle.panel.proofs.Places.{cutPlace, cut-at, cut-low, cut-depth}
 use Rattle.panel.proofs.ForcedCuts.{Added, good-iff, smallest-iff}
-use Rattle.panel.proofs.ForcedChain.{Chain, chain-start, chain-root, chain-cut, chain-edge, chain-last, chain-step, chain-smallest}
+use Rattle.panel.proofs.ForcedChain.{Chain, chain-start, chain-root, chain-cut, chain-edge, chain-last, chain-met, chain-step, chain-smallest}
 use Rattle.panel.proofs.TakingBack.{Kept, Mergeable, kept-good, mergeable-parent, mergeable-sibling}
 use Rattle.panel.proofs.OneBit.{OneBit, cut-same, cut-place-of, cut-place-low, cut-place-high, add-iff, drop-iff}
 use Rattle.panel.proofs.SameBytes.{cut-of, deep-same, panel-bits}
@@ -62,7 +62,7 @@ module _ {s : List ℕ} (G : Good s) where
   pub work-start : AtWork s s
   work-start = record { long = refl; head = λ p h. refl; first = G .first }
 
-  module _ {bs : List ℕ} (w : AtWork s bs) (n : ℕ) (low : 1 ≤ n) (deep : depthOf n < deepOf s) where
+  module _ (n : ℕ) (low : 1 ≤ n) (deep : depthOf n < deepOf s) where
     j : ℕ
     j = deepOf s - suc (depthOf n)
 
@@ -81,30 +81,36 @@ module _ {s : List ℕ} (G : Good s) where
     pub place-high : placeOf (deepOf s) (2 * n + 1) < 2 ^ deepOf s
     place-high = omega (arith, place, cut-place-high (deepOf s) shallow j (at-depth low) levels)
 
-    pub put-bit : (v : ℕ) → v < 2 → OneBit (deepOf s) (leafBit (deepOf s) bs) (leafBit (deepOf s) (putCut s bs n v)) (placeOf (deepOf s) (2 * n + 1)) v
-    put-bit v h = record {
-      here = leaf-put-same (deepOf s) bs (placeOf (deepOf s) (2 * n + 1)) v h place-high (omega (arith, w .long, panel-bits s (deepOf s) (G .fits)));
-      other = λ q l z. leaf-put-other (deepOf s) bs (placeOf (deepOf s) (2 * n + 1)) v h q z;
-    }
+    -- n is cut where that bit is set
+    pub place-set : (bs : List ℕ) → CutIn s bs n ↔ (leafBit (deepOf s) bs (placeOf (deepOf s) (2 * n + 1)) ≡ 1)
+    place-set bs =
+        subst (λ p. CutIn s bs n ↔ (leafBit (deepOf s) bs p ≡ 1)) place
+        (cut-at (deepOf s) (leafBit (deepOf s) bs) shallow (depthOf n) j n (at-depth low) levels)
 
-    pub work-put : (v : ℕ) → v < 2 → AtWork s (putCut s bs n v)
-    work-put v h = record {
-      long = length-putLeafBit (deepOf s) bs (placeOf (deepOf s) (2 * n + 1)) v ∙ w .long;
-      head = λ p l. head-put (deepOf s) bs (placeOf (deepOf s) (2 * n + 1)) v h p l ∙ w .head p l;
-      first = leaf-put-other (deepOf s) bs (placeOf (deepOf s) (2 * n + 1)) v h 0 (omega (arith, place-low)) ∙ w .first;
-    }
+    module _ {bs : List ℕ} (w : AtWork s bs) where
+      -- that bit put, and no other changed
+      put-bit : (v : ℕ) → v < 2 → OneBit (deepOf s) (leafBit (deepOf s) bs) (leafBit (deepOf s) (putCut s bs n v)) (cutPlace (deepOf s) j n) v
+      put-bit v h =
+          subst (λ p. OneBit (deepOf s) (leafBit (deepOf s) bs) (leafBit (deepOf s) (putCut s bs n v)) p v) (sym place)
+          (record {
+            here = leaf-put-same (deepOf s) bs (placeOf (deepOf s) (2 * n + 1)) v h place-high (omega (arith, w .long, panel-bits s (deepOf s) (G .fits)));
+            other = λ q l z. leaf-put-other (deepOf s) bs (placeOf (deepOf s) (2 * n + 1)) v h q z;
+          })
 
-    -- the bit set adds n's cut
-    pub work-add : (m : ℕ) → CutIn s (putCut s bs n 1) m ↔ (CutIn s bs m ⊎ (m ≡ n))
-    work-add m =
-        add-iff (deepOf s) shallow j (at-depth low) levels
-        (subst (λ p. OneBit (deepOf s) (leafBit (deepOf s) bs) (leafBit (deepOf s) (putCut s bs n 1)) p 1) (sym place) (put-bit 1 (omega arith))) m
+      pub work-put : (v : ℕ) → v < 2 → AtWork s (putCut s bs n v)
+      work-put v h = record {
+        long = length-putLeafBit (deepOf s) bs (placeOf (deepOf s) (2 * n + 1)) v ∙ w .long;
+        head = λ p l. head-put (deepOf s) bs (placeOf (deepOf s) (2 * n + 1)) v h p l ∙ w .head p l;
+        first = leaf-put-other (deepOf s) bs (placeOf (deepOf s) (2 * n + 1)) v h 0 (omega (arith, place-low)) ∙ w .first;
+      }
 
-    -- and cleared, takes it back
-    pub work-drop : (m : ℕ) → CutIn s (putCut s bs n 0) m ↔ (CutIn s bs m × (m ≢ n))
-    work-drop m =
-        drop-iff (deepOf s) shallow j (at-depth low) levels
-        (subst (λ p. OneBit (deepOf s) (leafBit (deepOf s) bs) (leafBit (deepOf s) (putCut s bs n 0)) p 0) (sym place) (put-bit 0 (omega arith))) m
+      -- the bit set adds n's cut
+      pub work-add : (m : ℕ) → CutIn s (putCut s bs n 1) m ↔ (CutIn s bs m ⊎ (m ≡ n))
+      work-add = add-iff (deepOf s) shallow j (at-depth low) levels (put-bit 1 (omega arith))
+
+      -- and cleared, takes it back
+      pub work-drop : (m : ℕ) → CutIn s (putCut s bs n 0) m ↔ (CutIn s bs m × (m ≢ n))
+      work-drop = drop-iff (deepOf s) shallow j (at-depth low) levels (put-bit 0 (omega arith))
 
   -- ---- with the sums made right
 
@@ -153,20 +159,27 @@ module _ {s : List ℕ} (G : Good s) where
       -- its own cut is the last where it has no neighbour
       pub splitting-last : edge m ≡ 0 → SplitBits s k (putCut s bs m 1)
       splitting-last z = record {
-        work = work-put (c .work) m one (c .deep) 1 (omega arith);
-        cuts = chain-last (G .cuts) own z (work-add (c .work) m one (c .deep));
+        work = work-put m one (c .deep) (c .work) 1 (omega arith);
+        cuts = chain-last (G .cuts) own z (work-add m one (c .deep) (c .work));
+      }
+
+      -- or where that is cut by now
+      pub splitting-met : (CutIn s bs m → ⊥) → edge m ≢ 0 → CutIn s (putCut s bs m 1) (edge m) → SplitBits s k (putCut s bs m 1)
+      splitting-met z e q = record {
+        work = work-put m one (c .deep) (c .work) 1 (omega arith);
+        cuts = chain-met (G .cuts) own z e (work-add m one (c .deep) (c .work)) q;
       }
 
       -- and else both are cut, and the neighbour's parent is next
       pub splitting-step : edge m ≢ 0 → Splitting s k (putCut s (putCut s bs m 1) (edge m) 1) (edge m / 2)
       splitting-step z = record {
-        work = work-put first-work (edge m) e-low e-deep 1 (omega arith);
+        work = work-put (edge m) e-low e-deep first-work 1 (omega arith);
         chain = subst (λ d. Chain (CutOf s) k (CutIn s (putCut s (putCut s bs m 1) (edge m) 1)) d (edge m / 2)) (sym (depth-is (next .at))) next;
         deep = omega (arith, depth-is (next .at), depth-half m low, c .deep);
       }
         where
           first-work : AtWork s (putCut s bs m 1)
-          first-work = work-put (c .work) m one (c .deep) 1 (omega arith)
+          first-work = work-put m one (c .deep) (c .work) 1 (omega arith)
 
           e-low : 1 ≤ edge m
           e-low = omega arith
@@ -176,8 +189,8 @@ module _ {s : List ℕ} (G : Good s) where
 
           both : (n : ℕ) → CutIn s (putCut s (putCut s bs m 1) (edge m) 1) n ↔ (CutIn s bs n ⊎ (n ≡ m) ⊎ (n ≡ edge m))
           both n =
-              let i = work-add (c .work) m one (c .deep) n in
-              let j = work-add first-work (edge m) e-low e-deep n in (
+              let i = work-add m one (c .deep) (c .work) n in
+              let j = work-add (edge m) e-low e-deep first-work n in (
                 λ q. ⊎-elim (λ x. ⊎-elim inl (λ y. inr (inl y)) (i .0 x)) (λ x. inr (inr x)) (j .0 q),
                 ⊎-elim (λ x. j .1 (inl (i .1 (inl x)))) (⊎-elim (λ x. j .1 (inl (i .1 (inr x)))) (λ x. j .1 (inr x))),
               )
@@ -205,20 +218,20 @@ module _ {s : List ℕ} (G : Good s) where
     merging-deep = cut-depth (deepOf s) (leafBit (deepOf s) s) shallow q (subst (CutOf s) (omega arith) (M .own .0 .parent))
 
     own-work : AtWork s (putCut s s q 0)
-    own-work = work-put work-start q q-low merging-deep 0 (omega arith)
+    own-work = work-put q q-low merging-deep work-start 0 (omega arith)
 
     pub merging-alone : edge q ≡ 0 → MergeBits s q (putCut s s q 0)
     merging-alone z = record {
       work = own-work;
-      cuts = λ n. let i = work-drop work-start q q-low merging-deep n in
+      cuts = λ n. let i = work-drop q q-low merging-deep work-start n in
           (λ c. (i .0 c .0, i .0 c .1, omega (arith, cut-low (deepOf s) (leafBit (deepOf s) s) shallow n (i .0 c .0))), λ k. i .1 (k .0, k .1));
     }
 
     pub merging-both : edge q ≢ 0 → MergeBits s q (putCut s (putCut s s q 0) (edge q) 0)
     merging-both z = record {
-      work = work-put own-work (edge q) (omega arith) e-deep 0 (omega arith);
-      cuts = λ n. let i = work-drop work-start q q-low merging-deep n in
-          let j = work-drop own-work (edge q) (omega arith) e-deep n in
+      work = work-put (edge q) (omega arith) e-deep own-work 0 (omega arith);
+      cuts = λ n. let i = work-drop q q-low merging-deep work-start n in
+          let j = work-drop (edge q) (omega arith) e-deep own-work n in
           (λ c. let (x, y) = j .0 c in (i .0 x .0, i .0 x .1, y), λ k. j .1 (i .1 (k .0, k .1), k .2));
     }
       where

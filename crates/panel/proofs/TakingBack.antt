@@ -48,7 +48,8 @@ module _ (P : ℕ → Type 0) (G : GoodCuts P) where
     least = λ r R sub n p. go r R sub n p (ℕ-discrete n q) (ℕ-discrete n (edge q));
   }
     where
-      go : (r : ℕ → Bool) → GoodCuts (λ n. r n ≡ true) → ((n : ℕ) → Kept P q n ⊎ (n ≡ q) → r n ≡ true) → (n : ℕ) → P n → Dec (n ≡ q) → Dec (n ≡ edge q) → r n ≡ true
+      go : (r : ℕ → Bool) → GoodCuts (λ n. r n ≡ true) → ((n : ℕ) → Kept P q n ⊎ (n ≡ q) → r n ≡ true)
+          → (n : ℕ) → P n → Dec (n ≡ q) → Dec (n ≡ edge q) → r n ≡ true
       go r R sub n p (yes e) f = sub n (inr e)
       go r R sub n p (no e) (no f) = sub n (inl (p, e, f))
       go r R sub n p (no e) (yes f) =
