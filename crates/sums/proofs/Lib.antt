@@ -1,4 +1,6 @@
 pub mod Slots
 pub mod Rooms
-pub mod Settled
-pub mod LeafBits
+pub mod Places
+pub mod Steps
+pub mod Leaves
+pub mod Unique

@@ -1,3 +1,4 @@
 pub mod Words
 pub mod Sums
 pub mod Rank
+pub mod Made

@@ -1,6 +1,8 @@
 // Words and sums.
 pub mod words; // words, leaf bits, the part of the bytes that the leaf bits fill
+pub mod making; // making every sum right
 
+pub use making::make_sums;
 pub use words::get_word;
 pub use words::leaf_bit;
 pub use words::leaf_part;
