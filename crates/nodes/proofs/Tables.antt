@@ -1,6 +1,6 @@
 -- One law serves every call: by one table, one input has one outcome. And how a `return` makes an outcome.
 use mathlib.Core.Path.{_≡_, refl, sym, _∙_}
-use mathlib.Core.Bool.{Bool, true, false}
+use mathlib.Core.Bool.{Bool, true, false, true≢false}
 use mathlib.Core.Logic.{_≢_, _⊎_, inl, inr}
 use mathlib.Core.List.{List, [], _∷_}
 use Prim.Native.Nat.{ℕ}
@@ -33,3 +33,11 @@ module _ {rows : List Row} {A : Type 0} {Done Refused : A → Type 0} {x : A} wh
 
   pub is-refused : {n : ℕ} → n ≢ 0 → Answers rows n → Refused x → Outcome rows A Done Refused n x
   is-refused z a r = record { answer = a; done = λ e. absurd (z e); refused = λ _. r }
+
+-- ---- tests
+
+pub says-yes : {P : Type 0} → P → Says P true
+says-yes p = record { yes = λ _. p; no = λ e. absurd (true≢false e) }
+
+pub says-no : {P : Type 0} → (P → ⊥) → Says P false
+says-no f = record { yes = λ e. absurd (true≢false (sym e)); no = λ _. f }

@@ -2,11 +2,14 @@
 pub mod numbers; // Node, LeafNumber, a node's depth
 pub mod refusals; // the customer's refusals, the answers that hold one, and their numbers
 pub mod triples; // the neighbour triple and the call `neighbours`
+pub mod longside; // the edge neighbour alone
 pub mod triangles; // both child matrices and the call `corners`
 
 pub use numbers::LeafNumber;
 pub use numbers::Node;
 pub use numbers::depth;
+pub use numbers::LEAST_DEPTH;
+pub use numbers::GREATEST_DEPTH;
 pub use refusals::Answer;
 pub use refusals::Around;
 pub use refusals::Counted;
@@ -14,3 +17,4 @@ pub use refusals::Found;
 pub use refusals::Numbered;
 pub use refusals::Refusal;
 pub use triples::Triple;
+pub use longside::edge_of;

@@ -3,6 +3,11 @@ ghost use mathlib.Core.Path.{_≡_};
 ghost use Prim.Native.Nat.{_≤_};
 ghost use Rattle.nodes.specs.Depth.{depthOf};
 
+// The depths that a panel may have.
+pub const LEAST_DEPTH: usize = 3;
+
+pub const GREATEST_DEPTH: usize = 14;
+
 // A node's number: node 1 is the whole panel, node k has the children 2k and 2k + 1.
 pub struct Node(pub u32);
 

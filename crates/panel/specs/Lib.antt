@@ -1,3 +1,4 @@
 pub mod Cuts
 pub mod Panels
 pub mod Calls
+pub mod Judging
