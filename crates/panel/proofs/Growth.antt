@@ -16,7 +16,8 @@ use Rattle.panel.specs.Calls.{SplitAt}
 use Rattle.panel.proofs.Leaves.{GoodBits}
 use Rattle.panel.proofs.GoodPanels.{good-bits, word-count}
 use Rattle.panel.proofs.SameBytes.{deep-same, cut-of, dec-cuts}
-use Rattle.panel.proofs.OneBit.{named-place, cut-set, set-cut}
+use Rattle.panel.proofs.Following.{place-cut}
+use Rattle.panel.proofs.OneBit.{named-place, named-set}
 use Rattle.panel.proofs.ForcedCuts.{Added, first-added, forcedList, few, listed, smallest-iff-added}
 
 -- ---- counts when bits change
@@ -96,7 +97,7 @@ module _ (D : ℕ) (f g : ℕ → ℕ) (F : GoodBits D f) (H : GoodBits D g) (k 
     where
       go : Dec (p ≡ 0) → g p ≡ 1
       go (yes z) = ap g z ∙ H .start
-      go (no z) = cut-set D (H .deep) g p (omega arith) h (e (named D p) .1 (inl (set-cut D f p (omega arith) h s)))
+      go (no z) = named-set D (H .deep) g p (omega arith) h (e (named D p) .1 (inl (place-cut D f (omega arith) h s)))
 
   grows : (p : ℕ) → p < 2 ^ D → f p ≤ g p
   grows p h = go (ℕ-discrete (f p) 1)
@@ -110,7 +111,7 @@ module _ (D : ℕ) (f g : ℕ → ℕ) (F : GoodBits D f) (H : GoodBits D g) (k 
   new p h = go (ℕ-discrete p 0) (ℕ-discrete (g p) 1) (ℕ-discrete (f p) 1)
     where
       forced : 0 < p → (f p ≡ 1 → ⊥) → Added (Cut D f) (depthOf k) k (named D p) → List·Memᴰ p (map (λ n. placeOf D (2 * n + 1)) (forcedList (depthOf k) k))
-      forced w s (inl c) = absurd (s (cut-set D (F .deep) f p w h c))
+      forced w s (inl c) = absurd (s (named-set D (F .deep) f p w h c))
       forced w s (inr c) =
           subst (λ x. List·Memᴰ x (map (λ n. placeOf D (2 * n + 1)) (forcedList (depthOf k) k))) (sym (named-place D (F .deep) p w h))
           (Memᴰ·map (λ n. placeOf D (2 * n + 1)) (listed (depthOf k) k (named D p) c))
@@ -118,7 +119,7 @@ module _ (D : ℕ) (f g : ℕ → ℕ) (F : GoodBits D f) (H : GoodBits D g) (k 
       go : Dec (p ≡ 0) → Dec (g p ≡ 1) → Dec (f p ≡ 1) → (g p ≡ f p) ⊎ List·Memᴰ p (map (λ n. placeOf D (2 * n + 1)) (forcedList (depthOf k) k))
       go (yes z) t s = inl (ap g z ∙ H .start ∙ sym (F .start) ∙ ap f (sym z))
       go (no z) (yes t) (yes s) = inl (t ∙ sym s)
-      go (no z) (yes t) (no s) = inr (forced (omega arith) s (e (named D p) .0 (set-cut D g p (omega arith) h t)))
+      go (no z) (yes t) (no s) = inr (forced (omega arith) s (e (named D p) .0 (place-cut D g (omega arith) h t)))
       go (no z) (no t) s = inl (omega (arith, grows p h, H .small p, F .small p))
 
   -- at most two cuts, and so two leaves, a level
