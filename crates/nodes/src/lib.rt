@@ -5,11 +5,12 @@ pub mod triples; // the neighbour triple and the call `neighbours`
 pub mod longside; // the edge neighbour alone
 pub mod triangles; // both child matrices and the call `corners`
 
+pub use longside::edge_of;
+pub use numbers::GREATEST_DEPTH;
+pub use numbers::LEAST_DEPTH;
 pub use numbers::LeafNumber;
 pub use numbers::Node;
 pub use numbers::depth;
-pub use numbers::LEAST_DEPTH;
-pub use numbers::GREATEST_DEPTH;
 pub use refusals::Answer;
 pub use refusals::Around;
 pub use refusals::Counted;
@@ -17,4 +18,3 @@ pub use refusals::Found;
 pub use refusals::Numbered;
 pub use refusals::Refusal;
 pub use triples::Triple;
-pub use longside::edge_of;

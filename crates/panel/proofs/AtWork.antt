@@ -169,9 +169,10 @@ module _ {s : List ℕ} (G : Good s) where
             both : (n : ℕ) → CutIn s (putLeafBit (deepOf s) (putLeafBit (deepOf s) bs p 1) q 1) n ↔ (CutIn s bs n ⊎ (n ≡ m) ⊎ (n ≡ edge m))
             both n =
                 let i = work-add at (c .work) n in
-                let j = work-add other first-work n in
-                (λ q. ⊎-elim (λ x. ⊎-elim inl (λ y. inr (inl y)) (i .0 x)) (λ x. inr (inr x)) (j .0 q),
-                ⊎-elim (λ x. j .1 (inl (i .1 (inl x)))) (⊎-elim (λ x. j .1 (inl (i .1 (inr x)))) (λ x. j .1 (inr x))))
+                let j = work-add other first-work n in (
+                  λ q. ⊎-elim (λ x. ⊎-elim inl (λ y. inr (inl y)) (i .0 x)) (λ x. inr (inr x)) (j .0 q),
+                  ⊎-elim (λ x. j .1 (inl (i .1 (inl x)))) (⊎-elim (λ x. j .1 (inl (i .1 (inr x)))) (λ x. j .1 (inr x))),
+                )
 
             next : Chain (CutOf s) k (CutIn s (putLeafBit (deepOf s) (putLeafBit (deepOf s) bs p 1) q 1)) (depthOf (m / 2)) (edge m / 2)
             next = chain-step (G .cuts) own z both
@@ -201,7 +202,7 @@ module _ {s : List ℕ} (G : Good s) where
       merging-alone z = record {
         work = work-put at work-start 0 (omega arith);
         cuts = λ n. let i = work-drop at work-start n in
-          (λ c. (i .0 c .0, i .0 c .1, omega (arith, cut-low (deepOf s) (leafBit (deepOf s) s) shallow n (i .0 c .0))), λ k. i .1 (k .0, k .1));
+            (λ c. (i .0 c .0, i .0 c .1, omega (arith, cut-low (deepOf s) (leafBit (deepOf s) s) shallow n (i .0 c .0))), λ k. i .1 (k .0, k .1));
       }
 
       pub merging-both : {r : ℕ} → edge q ≢ 0 → CutPlace (deepOf s) (edge q) r
@@ -209,8 +210,8 @@ module _ {s : List ℕ} (G : Good s) where
       merging-both z other = record {
         work = work-put other (work-put at work-start 0 (omega arith)) 0 (omega arith);
         cuts = λ n. let i = work-drop at work-start n in
-          let j = work-drop other (work-put at work-start 0 (omega arith)) n in
-          (λ c. let (x, y) = j .0 c in (i .0 x .0, i .0 x .1, y), λ k. j .1 (i .1 (k .0, k .1), k .2));
+            let j = work-drop other (work-put at work-start 0 (omega arith)) n in
+            (λ c. let (x, y) = j .0 c in (i .0 x .0, i .0 x .1, y), λ k. j .1 (i .1 (k .0, k .1), k .2));
       }
 
   -- the leaves that a merge of k needs are those of its parent

@@ -86,8 +86,7 @@ fn cuts_good(panel: &[u8], deep: usize) -> bool
         let mut p: usize = 1;
         while p < 1usize << deep {
             if sums::leaf_bit(panel, deep, p) == 1 {
-                if may_be_cut(panel, deep, named_node(deep, p)) {
-                } else {
+                if may_be_cut(panel, deep, named_node(deep, p)) {} else {
                     return false;
                 }
             }

@@ -79,9 +79,9 @@ loop-again c =
       omega arith,
       omega (arith, bound (c .before .before .before)),
       below-more _ _ (l .inv .2) (⊎-elim
-      (λ w _ _. test (record { before = record { before = record { before = c .before; if2 = w .0 }; named-node = w .1 }; may-be-cut = w .2 }) .yes (w .3 .taken))
-      (λ w _ s. absurd (w .left (c .before .leaf-bit .ensures ∙ s)))
-      (c .if2 .came)),
+          (λ w _ _. test (record { before = record { before = record { before = c .before; if2 = w .0 }; named-node = w .1 }; may-be-cut = w .2 }) .yes (w .3 .taken))
+          (λ w _ s. absurd (w .left (c .before .leaf-bit .ensures ∙ s)))
+          (c .if2 .came)),
     )
 
 returns-2 : tie.Need-returns-2 Inv-loop μ-loop
