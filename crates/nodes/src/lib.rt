@@ -7,6 +7,7 @@ pub mod triangles; // both child matrices and the call `corners`
 
 pub use longside::edge_of;
 pub use numbers::GREATEST_DEPTH;
+pub use numbers::GREATEST_NODE;
 pub use numbers::LEAST_DEPTH;
 pub use numbers::LeafNumber;
 pub use numbers::Node;
@@ -17,4 +18,10 @@ pub use refusals::Counted;
 pub use refusals::Found;
 pub use refusals::Numbered;
 pub use refusals::Refusal;
+pub use triangles::corners;
+pub use triangles::corners_of;
+pub use triangles::left_corners;
+pub use triangles::right_corners;
 pub use triples::Triple;
+pub use triples::neighbours;
+pub use triples::triple_of;
