@@ -42,17 +42,26 @@ edge-level d n a z =
 -- ---- the law behind the forced chain
 
 module _ (m : ℕ) (p : 2 ≤ m) where
-  edge-0 : edge (2 * (2 * m)) ≡ rightChild (rightChild (edge m))
+  pub edge-0 : edge (2 * (2 * m)) ≡ rightChild (rightChild (edge m))
   edge-0 = ap edgeIn (left-triple (2 * m) (omega arith)) ∙ ap rightChild (ap rightIn (left-triple m p))
 
-  edge-1 : edge (2 * (2 * m) + 1) ≡ 2 * (2 * m + 1)
+  pub edge-1 : edge (2 * (2 * m) + 1) ≡ 2 * (2 * m + 1)
   edge-1 = ap edgeIn (right-triple (2 * m) (omega arith)) ∙ ap (λ x. 2 * x) (ap leftIn (left-triple m p))
 
-  edge-2 : edge (2 * (2 * m + 1)) ≡ rightChild (2 * m)
+  pub edge-2 : edge (2 * (2 * m + 1)) ≡ rightChild (2 * m)
   edge-2 = ap edgeIn (left-triple (2 * m + 1) (omega arith)) ∙ ap rightChild (ap rightIn (right-triple m p))
 
-  edge-3 : edge (2 * (2 * m + 1) + 1) ≡ 2 * (2 * edge m)
+  pub edge-3 : edge (2 * (2 * m + 1) + 1) ≡ 2 * (2 * edge m)
   edge-3 = ap edgeIn (right-triple (2 * m + 1) (omega arith)) ∙ ap (λ x. 2 * x) (ap leftIn (right-triple m p))
+
+-- at depth 1 the neighbour is the other half of the panel
+pub edge-first : (n : ℕ) → 2 ≤ n → n ≤ 3 → edge n ≡ 5 - n
+unfolding neighboursOf neighboursAt depthOf depthIn
+edge-first n p q = go (decLe n 2)
+  where
+    go : Dec (n ≤ 2) → edge n ≡ 5 - n
+    go (yes a) = let e : n ≡ 2 = omega arith in rw e
+    go (no a) = let e : n ≡ 3 = omega arith in rw e
 
 -- at depth 2 the long sides are the panel's border
 pub edge-second : (n : ℕ) → 4 ≤ n → n ≤ 7 → edge n ≡ 0

@@ -8,6 +8,7 @@ pub mod Borders
 pub mod Areas
 pub mod Descents
 pub mod Tables
+pub mod Mirrors
 pub mod Outcomes
 pub mod Refusing
 pub mod Known

@@ -1,11 +1,12 @@
 -- One law serves every call: by one table, one input has one outcome. And how a `return` makes an outcome.
 use mathlib.Core.Path.{_≡_, refl, sym, _∙_}
-use mathlib.Core.Bool.{true, false}
+use mathlib.Core.Bool.{true, false, true≢false}
 use mathlib.Core.Logic.{_≢_, inl, inr}
 use mathlib.Core.List.{List, [], _∷_, _++_}
 use Prim.Native.Nat.{ℕ}
 use native.Mathlib.Decide.{ℕ-discrete}
-use native.Mathlib.Omega.{arith}
+use lib.Dec.{eqb}
+use borrow.Author.Tests.{eqb-true, eqb-false}
 use Rattle.nodes.specs.Table.{Row, Answers, Outcome, Says}
 
 pub answers-one : (rows : List Row) (n m : ℕ) → Answers rows n → Answers rows m → n ≡ m
@@ -43,11 +44,11 @@ refused-more (r ∷ rows) more n z (inr p) = inr (p .0, refused-more rows more n
 
 -- ---- a test that says whether P holds
 
-true-false : true ≡ false → ⊥
-true-false e = let z : _≡_ {A = ℕ} 0 1 = cc in omega arith
-
 pub says-yes : {P : Type 0} → P → Says P true
-says-yes p = record { yes = λ _. p; no = λ e. absurd (true-false e) }
+says-yes p = record { yes = λ _. p; no = λ e. absurd (true≢false e) }
 
 pub says-no : {P : Type 0} → (P → ⊥) → Says P false
-says-no h = record { yes = λ e. absurd (true-false (sym e)); no = λ _. h }
+says-no h = record { yes = λ e. absurd (true≢false (sym e)); no = λ _. h }
+
+pub says-equal : {P : Type 0} (a b : ℕ) → (a ≡ b → P) → (P → a ≡ b) → Says P (eqb a b)
+says-equal a b to from = record { yes = λ e. to (eqb-true a b e); no = λ e p. eqb-false a b e (from p) }

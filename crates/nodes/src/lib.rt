@@ -2,8 +2,10 @@
 pub mod numbers; // Node, LeafNumber, a node's depth
 pub mod refusals; // the customer's refusals, the answers that hold one, and their numbers
 pub mod triples; // the neighbour triple and the call `neighbours`
+pub mod longside; // the edge neighbour alone
 pub mod triangles; // both child matrices and the call `corners`
 
+pub use longside::edge_of;
 pub use numbers::GREATEST_DEPTH;
 pub use numbers::GREATEST_NODE;
 pub use numbers::LEAST_DEPTH;

@@ -1,1 +1,3 @@
-// Panels.
+// Panels: what a panel means, and the calls on a lent one.
+pub mod judging; // the depth of a length, cuts, and the call `judge`
+pub mod opening; // the call `open`

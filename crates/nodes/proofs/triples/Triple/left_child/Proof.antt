@@ -16,7 +16,7 @@ add-t6 : tie.Need-add-t6
 add-t6 c = search needs
 
 returns : tie.Need-returns
-returns c = cc
+returns c = rw (c .before .before .right-child-of .ensures, c .before .right-child-of2 .ensures)
 
 pub left-child-spec : {M : Type 1} → statement M
 left-child-spec =

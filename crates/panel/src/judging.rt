@@ -1,0 +1,116 @@
+// Judging a lent panel: its length, its words, its cuts.
+use nodes::Answer;
+use nodes::Node;
+use nodes::Refusal;
+ghost use mathlib.Core.Path.{_≡_};
+ghost use Prim.Native.Nat.{_+_, _^_, _≤_, _<_};
+ghost use Rattle.nodes.specs.Depth.{depthOf};
+ghost use Rattle.nodes.specs.Refusals.{answerNumber};
+ghost use Rattle.nodes.specs.Table.{Says};
+ghost use Rattle.sums.specs.Words.{leafBit, Room};
+ghost use Rattle.panel.specs.Cuts.{Cut, GoodCuts, named};
+ghost use Rattle.panel.specs.Calls.{Judged};
+ghost use Rattle.panel.specs.Judging.{CutPlace, Deep, Follows, NodeOf};
+
+// The depth of the panel by its length, or 0 where the length is wrong.
+pub fn depth_of(panel: &[u8]) -> usize
+    ensures { λ r. ⌜ Deep (now (panel .entry)) r ⌝ }
+{
+    let n = panel.len();
+    if n < 1usize << (nodes::LEAST_DEPTH - 1) {
+        return 0;
+    }
+    if 1usize << (nodes::GREATEST_DEPTH - 1) < n {
+        return 0;
+    }
+    let d = nodes::depth(Node(n as u32)) as usize;
+    if n != 1usize << d {
+        return 0;
+    }
+    d + 1
+}
+
+// The place of the leaf bit that names n: the leftmost below its right child.
+pub fn cut_place(deep: usize, n: Node) -> usize
+    requires { ⌜ (deep ≤ 17) × (1 ≤ n .0) × (depthOf (n .0) < deep) ⌝ }
+    ensures { λ r. ⌜ CutPlace deep (n .0) r ⌝ }
+{
+    let d = nodes::depth(n) as usize;
+    ((2 * n.0 as usize + 1) << (deep - 1 - d)) - (1usize << deep)
+}
+
+// Whether node n is cut: whether the leaf bit that names it is set.
+pub fn is_cut(panel: &[u8], deep: usize, n: Node) -> bool
+    requires { ⌜ Room deep (now panel) × NodeOf deep (n .0) ⌝ }
+    ensures { λ r. ⌜ Says (Cut deep (leafBit deep (now (panel .entry))) (n .0)) r ⌝ }
+{
+    if nodes::depth(n) as usize == deep {
+        return false;
+    }
+    sums::leaf_bit(panel, deep, cut_place(deep, n)) == 1
+}
+
+// The node that leaf bit p names: with t trailing zeros in p, (2^D + p) / 2^t is a right child, and this its parent.
+fn named_node(deep: usize, p: usize) -> Node
+    requires { ⌜ (deep ≤ 17) × (0 < p) × (p < 2 ^ deep) ⌝ }
+    ensures { λ r. ⌜ r .0 ≡ named deep p ⌝ }
+{
+    let t = u32::trailing_zeros(p as u32);
+    Node((((1usize << deep) + p) >> t) as u32 / 2)
+}
+
+// Whether n may be cut: its parent is, and its edge neighbour, where that is a node.
+fn may_be_cut(panel: &[u8], deep: usize, n: Node) -> bool
+    requires { ⌜ Room deep (now panel) × (1 ≤ n .0) × (n .0 < 2 ^ deep) ⌝ }
+    ensures { λ r. ⌜ Says (Follows (Cut deep (leafBit deep (now (panel .entry)))) (n .0)) r ⌝ }
+{
+    if n.0 < 2 {
+        return true;
+    }
+    if is_cut(panel, deep, Node(n.0 / 2)) {
+        let e = nodes::edge_of(n);
+        if e == 0 {
+            return true;
+        }
+        return is_cut(panel, deep, Node(e));
+    }
+    false
+}
+
+// Whether the cuts that the leaf bits name are good.
+fn cuts_good(panel: &[u8], deep: usize) -> bool
+    requires { ⌜ Room deep (now panel) ⌝ }
+    ensures { λ r. ⌜ Says (GoodCuts (Cut deep (leafBit deep (now (panel .entry))))) r ⌝ }
+{
+    if is_cut(panel, deep, Node(1)) {
+        let mut p: usize = 1;
+        while p < 1usize << deep {
+            if sums::leaf_bit(panel, deep, p) == 1 {
+                if may_be_cut(panel, deep, named_node(deep, p)) {} else {
+                    return false;
+                }
+            }
+            p += 1;
+        }
+        return true;
+    }
+    false
+}
+
+// Whether the panel is good: 0, or refusal 1 or 2.
+pub fn judge(panel: &[u8]) -> Answer
+    ensures { λ r. ⌜ Judged (now (panel .entry)) (answerNumber r) ⌝ }
+{
+    let deep = depth_of(panel);
+    if deep == 0 {
+        return Answer::No(Refusal::WrongLength);
+    }
+    if sums::all_right(panel, deep) {
+        if sums::leaf_bit(panel, deep, 0) == 1 {
+            if cuts_good(panel, deep) {
+                return Answer::Done;
+            }
+        }
+    }
+    Answer::No(Refusal::NotGood)
+}

@@ -1,0 +1,26 @@
+-- Word 0 has depth 0 by definition, and any other word is a node's.
+use mathlib.Core.Path.{sym, ap, _∙_}
+use native.Mathlib.Omega.{arith}
+use borrow.Author.Needs.{needs}
+use Rattle.nodes.specs.Depth.{depthOf}
+use Rattle.nodes.proofs.Depths.{depth-zero}
+use Rattle.sums.proofs.words.depth_of.Statement.{statement}
+use Rattle.sums.proofs.words.depth_of.Tie as tie
+
+returns : tie.Need-returns
+returns c = sym depth-zero ∙ ap depthOf {x = 0} {y = c .before .args .k} (omega arith)
+
+cast-t4 : tie.Need-cast-t4
+cast-t4 c = search needs
+
+depth-requires : tie.Need-depth-requires
+depth-requires c κs = search needs
+
+cast-result : tie.Need-cast-result
+cast-result c = search needs
+
+returns-2 : tie.Need-returns-2
+returns-2 c = search needs
+
+pub depth-of-spec : {M : Type 1} → statement M
+depth-of-spec = tie.close (tie.spec returns cast-t4 depth-requires cast-result returns-2)
