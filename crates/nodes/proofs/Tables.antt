@@ -5,6 +5,8 @@ use mathlib.Core.Logic.{_≢_, inl, inr}
 use mathlib.Core.List.{List, [], _∷_, _++_}
 use Prim.Native.Nat.{ℕ}
 use native.Mathlib.Decide.{ℕ-discrete}
+use lib.Dec.{eqb}
+use borrow.Author.Tests.{eqb-true, eqb-false}
 use Rattle.nodes.specs.Table.{Row, Answers, Outcome, Says}
 
 pub answers-one : (rows : List Row) (n m : ℕ) → Answers rows n → Answers rows m → n ≡ m
@@ -46,4 +48,7 @@ pub says-yes : {P : Type 0} → P → Says P true
 says-yes p = record { yes = λ _. p; no = λ e. absurd (true≢false e) }
 
 pub says-no : {P : Type 0} → (P → ⊥) → Says P false
-says-no h = record { yes = λ e. absurd (true≢false (sym e)); no = λ _. h }
+says-no f = record { yes = λ e. absurd (true≢false (sym e)); no = λ _. f }
+
+pub says-equal : {P : Type 0} (a b : ℕ) → (a ≡ b → P) → (P → a ≡ b) → Says P (eqb a b)
+says-equal a b to from = record { yes = λ e. to (eqb-true a b e); no = λ e p. eqb-false a b e (from p) }

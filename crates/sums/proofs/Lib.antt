@@ -4,3 +4,9 @@ pub mod Places
 pub mod Steps
 pub mod Leaves
 pub mod Unique
+pub mod Sevens
+pub mod Rows
+pub mod Lowest
+pub mod Heads
+pub mod Ranks
+pub mod Counts

@@ -2,3 +2,4 @@ pub mod Words
 pub mod Sums
 pub mod Rank
 pub mod Made
+pub mod Rows
