@@ -48,7 +48,7 @@ pub says-yes : {P : Type 0} → P → Says P true
 says-yes p = record { yes = λ _. p; no = λ e. absurd (true≢false e) }
 
 pub says-no : {P : Type 0} → (P → ⊥) → Says P false
-says-no f = record { yes = λ e. absurd (true≢false (sym e)); no = λ _. f }
+says-no h = record { yes = λ e. absurd (true≢false (sym e)); no = λ _. h }
 
 pub says-equal : {P : Type 0} (a b : ℕ) → (a ≡ b → P) → (P → a ≡ b) → Says P (eqb a b)
 says-equal a b to from = record { yes = λ e. to (eqb-true a b e); no = λ e p. eqb-false a b e (from p) }

@@ -96,3 +96,21 @@ fn cuts_good(panel: &[u8], deep: usize) -> bool
     }
     false
 }
+
+// Whether the panel is good: 0, or refusal 1 or 2.
+pub fn judge(panel: &[u8]) -> Answer
+    ensures { λ r. ⌜ Judged (now (panel .entry)) (answerNumber r) ⌝ }
+{
+    let deep = depth_of(panel);
+    if deep == 0 {
+        return Answer::No(Refusal::WrongLength);
+    }
+    if sums::all_right(panel, deep) {
+        if sums::leaf_bit(panel, deep, 0) == 1 {
+            if cuts_good(panel, deep) {
+                return Answer::Done;
+            }
+        }
+    }
+    Answer::No(Refusal::NotGood)
+}

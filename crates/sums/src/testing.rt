@@ -24,18 +24,19 @@ fn seven(x: u32, y: u32, z: u32, u: u32) -> bool
     u == z % 8 + z / 8 % 8
 }
 
-// Rows deep - 3 to deep - 1: word k starts at bit a, word 2k at b, word 4k at c, leaf bit 8k at d.
+// Rows deep - 3 to deep - 1: word k starts at bit a, word 2k at bit b, word 4k at bit c, word 8k at bit d.
 fn low_rows(bytes: &[u8], deep: usize) -> bool
     requires { ⌜ Room deep (now bytes) ⌝ }
     ensures { λ r. ⌜ Says (SumsBetween deep (now (bytes .entry)) (2 ^ (deep - 3)) (2 ^ deep)) r ⌝ }
 {
     let m: usize = 1 << (deep - 3);
+    let last: usize = 2 * m - 1;
     let mut k: usize = m;
     let mut a: usize = 6 * m;
     let mut b: usize = 10 * m;
     let mut c: usize = 16 * m;
     let mut d: usize = 24 * m;
-    while k < 2 * m {
+    while k <= last {
         let u = bits::get_field(bytes, a, 4);
         let z = bits::get_field(bytes, b, 6);
         let y = bits::get_field(bytes, c, 8);
@@ -59,11 +60,12 @@ fn row(bytes: &[u8], deep: usize, d: usize) -> bool
     ensures { λ r. ⌜ Says (SumsBetween deep (now (bytes .entry)) (2 ^ d) (2 ^ (d + 1))) r ⌝ }
 {
     let w = deep - d;
-    let m: usize = 1 << d;
-    let mut k: usize = m;
-    let mut p: usize = m * (w + 3);
-    let mut c: usize = 2 * (m * (w + 2));
-    while k < 2 * m {
+    let first: usize = 1 << d;
+    let last: usize = 2 * first - 1;
+    let mut k: usize = first;
+    let mut p: usize = first * (w + 3);
+    let mut c: usize = 2 * (first * (w + 2));
+    while k <= last {
         let x = bits::get_field(bytes, c, w);
         let y = bits::get_field(bytes, c + w, w);
         let v = bits::get_field(bytes, p, w + 1);
@@ -77,13 +79,13 @@ fn row(bytes: &[u8], deep: usize, d: usize) -> bool
     true
 }
 
-// The rows before row last.
-fn high_rows(bytes: &[u8], deep: usize, last: usize) -> bool
-    requires { ⌜ Room deep (now bytes) × (last ≤ deep) ⌝ }
-    ensures { λ r. ⌜ Says (SumsBetween deep (now (bytes .entry)) 1 (2 ^ last)) r ⌝ }
+// The rows before row end.
+fn high_rows(bytes: &[u8], deep: usize, end: usize) -> bool
+    requires { ⌜ Room deep (now bytes) × (end ≤ deep) ⌝ }
+    ensures { λ r. ⌜ Says (SumsBetween deep (now (bytes .entry)) 1 (2 ^ end)) r ⌝ }
 {
     let mut d: usize = 0;
-    while d < last {
+    while d < end {
         if row(bytes, deep, d) {
             d += 1;
         } else {

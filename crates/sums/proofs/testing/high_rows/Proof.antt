@@ -10,10 +10,10 @@ use Rattle.sums.proofs.testing.high_rows.Statement.{statement}
 use Rattle.sums.proofs.testing.high_rows.Tie as tie
 
 abbrev Inv-loop : tie.InvT-loop
-Inv-loop bytes deep last d₀ d = (d ≤ last) × SumsBetween deep bytes 1 (2 ^ d)
+Inv-loop bytes deep end d₀ d = (d ≤ end) × SumsBetween deep bytes 1 (2 ^ d)
 
 abbrev μ-loop : tie.MeasureT-loop
-μ-loop bytes deep last d₀ d = last - d
+μ-loop bytes deep end d₀ d = end - d
 
 loop-holds : tie.Need-loop-holds Inv-loop μ-loop
 loop-holds c = (omega arith, sums-none (c .before .args .deep) (c .before .args .bytes .now) 1)
@@ -37,13 +37,13 @@ returns : tie.Need-returns Inv-loop μ-loop
 returns c =
     let l = c .before .before .before .loop in
     let a = c .before .before .before .before .before .args in
-    says-no (λ s. c .before .row .ensures .no (c .if1 .left) (λ k lo hi. s k (omega (arith, pow-pos (l .d))) (omega (arith, pow-mono {i = l .d + 1} {j = a .last} (omega arith)))))
+    says-no (λ s. c .before .row .ensures .no (c .if1 .left) (λ k lo hi. s k (omega (arith, pow-pos (l .d))) (omega (arith, pow-mono {i = l .d + 1} {j = a .end} (omega arith)))))
 
 returns-2 : tie.Need-returns-2 Inv-loop μ-loop
 returns-2 c =
     let l = c .before .loop in
     let a = c .before .before .before .args in
-    says-yes (λ k lo hi. l .inv .1 k lo (omega (arith, pow-mono {i = a .last} {j = l .d} (omega arith))))
+    says-yes (λ k lo hi. l .inv .1 k lo (omega (arith, pow-mono {i = a .end} {j = l .d} (omega arith))))
 
 pub high-rows-spec : {M : Type 1} → statement M
 high-rows-spec =

@@ -1,9 +1,9 @@
 -- Each turn tests the seven sums at node k and below it; the rows end together.
-use mathlib.Core.Path.{_≡_, sym, ap, _∙_, subst, subst⁻¹}
+use mathlib.Core.Path.{_≡_, sym, ap, _∙_, subst⁻¹}
 use Prim.Native.Nat.{ℕ, _+_, _-_, _*_, _%_, _^_, _≤_, _<_}
 use native.Mathlib.Omega.{arith}
 use lib.ListN.{length}
-use lib.Pow.{pow-mono}
+use lib.Pow.{pow-mono, pow-pos}
 use Rattle.bits.specs.Bits.{field}
 use Rattle.bits.proofs.Laws.{one-shl, field-lt}
 use Rattle.nodes.proofs.Tables.{says-yes, says-no}
@@ -14,10 +14,10 @@ use Rattle.sums.proofs.testing.low_rows.Statement.{statement}
 use Rattle.sums.proofs.testing.low_rows.Tie as tie
 
 abbrev Inv-loop : tie.InvT-loop
-Inv-loop bytes deep m k₀ a₀ b₀ c₀ d₀ k a b c d = (m ≡ 2 ^ (deep - 3)) × Eights deep (deep - 3) bytes k a b c d
+Inv-loop bytes deep m last k₀ a₀ b₀ c₀ d₀ k a b c d = (m ≡ 2 ^ (deep - 3)) × Eights deep (deep - 3) bytes k a b c d
 
 abbrev μ-loop : tie.MeasureT-loop
-μ-loop bytes deep m k₀ a₀ b₀ c₀ d₀ k a b c d = 2 * m - k
+μ-loop bytes deep m last k₀ a₀ b₀ c₀ d₀ k a b c d = last + 1 - k
 
 three : (c : tie.After-shared-slice-known Inv-loop μ-loop) → c .before .args .deep - 3 + 3 ≡ c .before .args .deep
 three c = omega arith
@@ -29,7 +29,7 @@ few : (c : tie.After-shared-slice-known Inv-loop μ-loop) → 2 ^ (c .before .ar
 few c = pow-mono {i = c .before .args .deep - 3} {j = 14} (omega arith)
 
 test : (c : tie.In-loop Inv-loop μ-loop) → c .before .loop .k < 2 * 2 ^ (c .before .before .before .args .deep - 3)
-test c = subst (λ (x : ℕ). c .before .loop .k < 2 * x) (c .before .loop .inv .0) (c .loop-test .taken)
+test c = omega (arith, c .before .loop .inv .0, c .loop-test .taken, pow-pos (c .before .before .before .args .deep - 3))
 
 -- what a turn reads is inside
 known : (c : tie.In-loop Inv-loop μ-loop)
@@ -72,6 +72,12 @@ sub-m c = omega arith
 shl-m : tie.Need-shl-m Inv-loop μ-loop
 shl-m c = omega arith
 
+mul-last : tie.Need-mul-last Inv-loop μ-loop
+mul-last c = omega (arith, shifted c, few c)
+
+sub-last : tie.Need-sub-last Inv-loop μ-loop
+sub-last c = omega (arith, shifted c, pow-pos (c .before .args .deep - 3))
+
 mul-a : tie.Need-mul-a Inv-loop μ-loop
 mul-a c = omega (arith, shifted c, few c)
 
@@ -88,9 +94,6 @@ loop-holds : tie.Need-loop-holds Inv-loop μ-loop
 loop-holds c =
     let a = c .before .args in
     (shifted c, subst⁻¹ (λ (x : ℕ). Eights (a .deep) (a .deep - 3) (a .bytes .now) x (6 * x) (10 * x) (16 * x) (24 * x)) (shifted c) (eights-first (a .deep) (a .deep - 3) (three c) (a .bytes .now)))
-
-mul-loop : tie.Need-mul-loop Inv-loop μ-loop
-mul-loop c = omega (arith, shifted (c .before), few (c .before))
 
 get-field-requires : tie.Need-get-field-requires Inv-loop μ-loop
 get-field-requires c κs = (long c, omega (arith, known c .0), omega arith, omega arith)
@@ -162,7 +165,7 @@ returns-2 c =
     let a = c .before .before .before .args in
     let l = c .before .loop in
     says-yes (eights-all (a .deep) (a .deep - 3) (three (c .before .before)) (a .bytes .now) (l .k) (l .a) (l .b) (l .c) (l .d) (l .inv .1)
-    (subst (λ (m : ℕ). 2 * m ≤ l .k) (l .inv .0) (c .loop-test .left)))
+    (omega (arith, l .inv .0, c .loop-test .left)))
 
 pub low-rows-spec : {M : Type 1} → statement M
 low-rows-spec =
@@ -172,12 +175,13 @@ low-rows-spec =
     μ-loop
     sub-m
     shl-m
+    mul-last
+    sub-last
     mul-a
     mul-b
     mul-c
     mul-d
     loop-holds
-    mul-loop
     get-field-requires
     get-field-requires-2
     get-field-requires-3

@@ -1,5 +1,5 @@
 -- Word k and its children stand where the running places say, from the row's first word to its last.
-use mathlib.Core.Path.{_≡_, sym, ap, ap₂, _∙_, subst, subst⁻¹}
+use mathlib.Core.Path.{_≡_, sym, ap, ap₂, _∙_, subst⁻¹}
 use Prim.Native.Nat.{ℕ, _+_, _-_, _*_, _%_, _^_, _≤_, _<_}
 use native.Mathlib.Omega.{arith}
 use lib.ListN.{length}
@@ -13,15 +13,15 @@ use Rattle.sums.proofs.testing.row.Statement.{statement}
 use Rattle.sums.proofs.testing.row.Tie as tie
 
 abbrev Inv-loop : tie.InvT-loop
-Inv-loop bytes deep d w m k₀ p₀ c₀ k p c = (m ≡ 2 ^ d) × Running deep d bytes k p c
+Inv-loop bytes deep d w first last k₀ p₀ c₀ k p c = (first ≡ 2 ^ d) × Running deep d bytes k p c
 
 abbrev μ-loop : tie.MeasureT-loop
-μ-loop bytes deep d w m k₀ p₀ c₀ k p c = 2 * m - k
+μ-loop bytes deep d w first last k₀ p₀ c₀ k p c = last + 1 - k
 
 -- the row's first places
-first : (c : tie.After-shared-slice-known Inv-loop μ-loop)
+begin : (c : tie.After-shared-slice-known Inv-loop μ-loop)
     → let a = c .before .args in Here (a .deep) (a .deep - a .d) (a .bytes .now) (2 ^ a .d) (2 ^ a .d * (a .deep - a .d + 3)) (2 * (2 ^ a .d * (a .deep - a .d + 2)))
-first c =
+begin c =
     let a = c .before .args in
     here (a .deep) (a .d) (a .deep - a .d) (omega arith) (omega arith) (a .bytes .now) (2 ^ a .d) _ _
     (running-first (a .deep) (a .d) (a .deep - a .d) (omega arith) (omega arith) (a .bytes .now)) (omega (arith, pow-pos (a .d)))
@@ -33,7 +33,7 @@ shifted : (c : tie.After-shared-slice-known Inv-loop μ-loop) → 1 * 2 ^ c .bef
 shifted c = one-shl (c .before .args .d) 64 (omega arith)
 
 test : (c : tie.In-loop Inv-loop μ-loop) → c .before .loop .k < 2 * 2 ^ c .before .before .before .args .d
-test c = subst (λ (x : ℕ). c .before .loop .k < 2 * x) (c .before .loop .inv .0) (c .loop-test .taken)
+test c = omega (arith, c .before .loop .inv .0, c .loop-test .taken, pow-pos (c .before .before .before .args .d))
 
 -- a turn's places
 known : (c : tie.In-loop Inv-loop μ-loop)
@@ -68,31 +68,34 @@ read c =
 sub-w : tie.Need-sub-w Inv-loop μ-loop
 sub-w c = omega arith
 
-shl-m : tie.Need-shl-m Inv-loop μ-loop
-shl-m c = omega arith
+shl-first : tie.Need-shl-first Inv-loop μ-loop
+shl-first c = omega arith
+
+mul-last : tie.Need-mul-last Inv-loop μ-loop
+mul-last c = omega (arith, shifted c, few c, pow-mono {i = c .before .args .d} {j = c .before .args .deep + 2} (omega arith))
+
+sub-last : tie.Need-sub-last Inv-loop μ-loop
+sub-last c = omega (arith, shifted c, pow-pos (c .before .args .d))
 
 add-p : tie.Need-add-p Inv-loop μ-loop
 add-p c = omega arith
 
 mul-p : tie.Need-mul-p Inv-loop μ-loop
-mul-p c = omega (arith, ap (λ (m : ℕ). m * (c .before .args .deep - c .before .args .d + 3)) (shifted c), first c .own-inside, few c)
+mul-p c = omega (arith, ap (λ (m : ℕ). m * (c .before .args .deep - c .before .args .d + 3)) (shifted c), begin c .own-inside, few c)
 
 add-c : tie.Need-add-c Inv-loop μ-loop
 add-c c = omega arith
 
 mul-c : tie.Need-mul-c Inv-loop μ-loop
-mul-c c = omega (arith, ap (λ (m : ℕ). m * (c .before .args .deep - c .before .args .d + 2)) (shifted c), first c .children-inside, few c)
+mul-c c = omega (arith, ap (λ (m : ℕ). m * (c .before .args .deep - c .before .args .d + 2)) (shifted c), begin c .children-inside, few c)
 
 mul-c-2 : tie.Need-mul-c-2 Inv-loop μ-loop
-mul-c-2 c = omega (arith, ap (λ (m : ℕ). m * (c .before .args .deep - c .before .args .d + 2)) (shifted c), first c .children-inside, few c)
+mul-c-2 c = omega (arith, ap (λ (m : ℕ). m * (c .before .args .deep - c .before .args .d + 2)) (shifted c), begin c .children-inside, few c)
 
 loop-holds : tie.Need-loop-holds Inv-loop μ-loop
 loop-holds c =
     let a = c .before .args in
     (shifted c, subst⁻¹ (λ (m : ℕ). Running (a .deep) (a .d) (a .bytes .now) m (m * (a .deep - a .d + 3)) (2 * (m * (a .deep - a .d + 2)))) (shifted c) (running-first (a .deep) (a .d) (a .deep - a .d) (omega arith) (omega arith) (a .bytes .now)))
-
-mul-loop : tie.Need-mul-loop Inv-loop μ-loop
-mul-loop c = omega (arith, c .loop .inv .0, few (c .before), pow-mono {i = c .before .before .args .d} {j = c .before .before .args .deep + 2} (omega arith))
 
 get-field-requires : tie.Need-get-field-requires Inv-loop μ-loop
 get-field-requires c κs = (long c, omega (arith, known c .children-inside), omega arith, omega arith)
@@ -149,7 +152,7 @@ returns-2 : tie.Need-returns-2 Inv-loop μ-loop
 returns-2 c =
     let l = c .before .loop in
     let d = c .before .before .before .args .d in
-    says-yes (λ k lo hi. l .inv .1 .before k lo (omega (arith, pow-next d, subst (λ (m : ℕ). 2 * m ≤ l .k) (l .inv .0) (c .loop-test .left))))
+    says-yes (λ k lo hi. l .inv .1 .before k lo (omega (arith, pow-next d, l .inv .0, c .loop-test .left)))
 
 pub row-spec : {M : Type 1} → statement M
 row-spec =
@@ -158,14 +161,15 @@ row-spec =
     Inv-loop
     μ-loop
     sub-w
-    shl-m
+    shl-first
+    mul-last
+    sub-last
     add-p
     mul-p
     add-c
     mul-c
     mul-c-2
     loop-holds
-    mul-loop
     get-field-requires
     add-get-field
     get-field-requires-2
