@@ -2,7 +2,7 @@
 use mathlib.Core.Path.{_≡_, refl, sym, _∙_, subst}
 use mathlib.Core.Logic.{_≢_, _⊎_, inl, inr, ⊎-elim, _↔_, Iff·symm, Iff·trans}
 use mathlib.Core.List.{List}
-use Prim.Native.Nat.{ℕ, suc, _+_, _*_, _/_, _^_, _≤_, _<_}
+use Prim.Native.Nat.{ℕ, suc, _/_, _≤_, _<_}
 use native.Mathlib.Omega.{arith}
 use lib.ListN.{length}
 use lib.Pow.{pow-mono, pow-pos}
@@ -13,6 +13,7 @@ use Rattle.nodes.proofs.Depths.{at-depth, depth-is, depth-half}
 use Rattle.nodes.proofs.Edges.{edge-depth}
 use Rattle.sums.specs.Words.{word, leafBit, putLeafBit, Room}
 use Rattle.sums.specs.Sums.{Right, Summed}
+use Rattle.sums.proofs.Rooms.{room-same}
 use Rattle.sums.proofs.Leaves.{length-put-leaf, leaf-put-same, leaf-put-other, bit-put-leaf, word-put-leaf}
 use Rattle.sums.proofs.Unique.{summed-leaf, summed-right}
 use Rattle.panel.specs.Cuts.{Cut, GoodCuts}
@@ -63,8 +64,7 @@ module _ {s : List ℕ} (G : Good s) where
   work-start = record { long = refl; bit-0 = G .right .bit-0; bit-1 = G .right .bit-1; depth = G .right .depth; first = G .first }
 
   pub work-room : {bs : List ℕ} → AtWork s bs → Room (deepOf s) bs
-  work-room w =
-      let r = fits-room s (deepOf s) (G .fits) in record { low = r .low; high = r .high; long = omega (arith, w .long, r .long) }
+  work-room w = room-same (w .long) (fits-room s (deepOf s) (G .fits))
 
   -- ---- the bit at place p, which names n, is put
 

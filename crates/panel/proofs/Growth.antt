@@ -10,6 +10,7 @@ use Rattle.nodes.specs.Depth.{depthOf}
 use Rattle.nodes.proofs.Depths.{at-depth}
 use Rattle.sums.specs.Rank.{rank}
 use Rattle.sums.specs.Words.{leafBit}
+use Rattle.sums.proofs.Ranks.{rank-ext}
 use Rattle.panel.specs.Cuts.{Cut, named, Leaf, placeOf}
 use Rattle.panel.specs.Panels.{deepOf, CutOf, Good, LeafOf, leafCount}
 use Rattle.panel.specs.Calls.{SplitAt}
@@ -22,25 +23,16 @@ use Rattle.panel.proofs.ForcedCuts.{Added, first-added, forcedList, few
 
 -- ---- counts when bits change
 
-module _ (f g : ℕ → ℕ) (p : ℕ) where
-  rank-miss : (m : ℕ) → m ≤ p → ((q : ℕ) → q < m → q ≢ p → g q ≡ f q) → rank g m ≡ rank f m
-  unfolding rank
-  rank-miss zero h e = refl
-  rank-miss (suc m) h e = omega (arith, rank-miss m (omega arith) (λ q l. e q (omega arith)), e m (omega arith) (omega arith))
-
-  -- one bit's change is the count's
-  pub rank-one : (m : ℕ) → p < m → ((q : ℕ) → q < m → q ≢ p → g q ≡ f q) → rank g m + f p ≡ rank f m + g p
-  unfolding rank
-  rank-one zero h e = absurd (omega arith)
-  rank-one (suc m) h e = go (ℕ-discrete m p) (rank-one m)
-    where
-      go : Dec (m ≡ p) → (p < m → ((q : ℕ) → q < m → q ≢ p → g q ≡ f q) → rank g m + f p ≡ rank f m + g p)
-          → rank g m + g m + f p ≡ rank f m + f m + g p
-      go (yes r) ih = omega (arith, rank-miss m (omega arith) (λ q l. e q (omega arith)), ap f r, ap g r)
-      go (no r) ih = omega (arith, ih (omega arith) (λ q l. e q (omega arith)), e m (omega arith) r)
-
-pub rank-same : (f g : ℕ → ℕ) (m : ℕ) → ((p : ℕ) → p < m → g p ≡ f p) → rank g m ≡ rank f m
-rank-same f g m e = rank-miss f g m m (omega arith) (λ q l z. e q l)
+-- one bit's change is the count's
+pub rank-one : (f g : ℕ → ℕ) (p m : ℕ) → p < m → ((q : ℕ) → q < m → q ≢ p → g q ≡ f q) → rank g m + f p ≡ rank f m + g p
+unfolding rank
+rank-one f g p zero h e = absurd (omega arith)
+rank-one f g p (suc m) h e = go (ℕ-discrete m p) (rank-one f g p m)
+  where
+    go : Dec (m ≡ p) → (p < m → ((q : ℕ) → q < m → q ≢ p → g q ≡ f q) → rank g m + f p ≡ rank f m + g p)
+        → rank g m + g m + f p ≡ rank f m + f m + g p
+    go (yes r) ih = omega (arith, rank-ext g f m (λ q l. e q (omega arith) (omega arith)), ap f r, ap g r)
+    go (no r) ih = omega (arith, ih (omega arith) (λ q l. e q (omega arith)), e m (omega arith) r)
 
 pub rank-le : (f g : ℕ → ℕ) (m : ℕ) → ((p : ℕ) → p < m → f p ≤ g p) → rank f m ≤ rank g m
 unfolding rank
@@ -74,12 +66,12 @@ rank-put f p v m h = go (decLt p m)
   where
     go : Dec (p < m) → rank (put f p v) m ≤ rank f m + 1
     go (yes l) = omega (arith, rank-one f (put f p v) p m l (λ q i z. put-other f p v q z), put-same f p v p refl)
-    go (no l) = omega (arith, rank-miss f (put f p v) p m (omega arith) (λ q i z. put-other f p v q z))
+    go (no l) = omega (arith, rank-ext (put f p v) f m (λ q i. put-other f p v q (omega arith)))
 
 -- bits that differ in no place but those of a list
 pub rank-list : (g : ℕ → ℕ) → ((p : ℕ) → g p ≤ 1) → (m : ℕ) (ps : List ℕ) (f : ℕ → ℕ)
     → ((p : ℕ) → p < m → (g p ≡ f p) ⊎ List·Memᴰ p ps) → rank g m ≤ rank f m + length ps
-rank-list g s m [] f e = omega (arith, rank-same f g m (λ p l. ⊎-elim (λ r. r) (λ r. absurd (List·Memᴰ·not-nil r)) (e p l)))
+rank-list g s m [] f e = omega (arith, rank-ext g f m (λ p l. ⊎-elim (λ r. r) (λ r. absurd (List·Memᴰ·not-nil r)) (e p l)))
 rank-list g s m (x ∷ ps) f e = omega (arith, rank-list g s m ps (put f x (g x)) (λ p l. next p (ℕ-discrete p x) (e p l)), rank-put f x (g x) m (s x))
   where
     next : (p : ℕ) → Dec (p ≡ x) → (g p ≡ f p) ⊎ List·Memᴰ p (x ∷ ps) → (g p ≡ put f x (g x) p) ⊎ List·Memᴰ p ps
