@@ -1,3 +1,4 @@
 // Panels: what a panel means, and the calls on a lent one.
 pub mod judging; // the depth of a length, cuts, and the call `judge`
 pub mod opening; // the call `open`
+pub mod cutting; // cutting and taking back cuts in a judged panel
