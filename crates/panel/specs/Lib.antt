@@ -2,3 +2,4 @@ pub mod Cuts
 pub mod Panels
 pub mod Calls
 pub mod Judging
+pub mod Descents

@@ -1,2 +1,4 @@
 // Panels: what a panel means, and the calls on a lent one.
 pub mod judging; // the depth of a length, cuts, and the call `judge`
+pub mod descending; // from node 1 down to a leaf
+pub mod judged; // reading a panel that was judged good
