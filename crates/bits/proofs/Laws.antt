@@ -1,9 +1,9 @@
 -- Laws of bits and fields: what a write changes and what it leaves, over any width; two lists of bytes with the same bits are equal.
 use mathlib.Core.Path.{_≡_, refl, sym, ap, ap₂, _∙_, subst}
-use mathlib.Core.Logic.{_≢_, _⊎_, inl, inr, ⊎-elim}
+use mathlib.Core.Logic.{_⊎_, inl, inr, ⊎-elim}
 use mathlib.Core.List.{List, [], _∷_}
-use Prim.Native.Nat.{ℕ, zero, suc, _+_, _-_, _*_, _/_, _%_, _^_, _≤_, _<_, zero-le, suc-le-suc}
-use native.Mathlib.Nat.{one-mul, le-dest, le-of-suc-le-suc, not-suc-le-zero, mod-lt, mod-one, div-one, mod-eq-of-lt, mod-mod, add-zero, add-suc, suc-add, add-comm, add-assoc, pow-suc}
+use Prim.Native.Nat.{ℕ, zero, suc, _+_, _-_, _*_, _/_, _%_, _^_, _≤_, _<_, suc-le-suc}
+use native.Mathlib.Nat.{one-mul, le-dest, le-of-suc-le-suc, not-suc-le-zero, mod-lt, mod-one, div-one, mod-eq-of-lt, add-zero, add-assoc, pow-suc}
 use native.Mathlib.Numerals.{add-one, one-add}
 use native.Mathlib.Omega.{arith}
 use lib.ListN.{length, getD, set, length-set}
@@ -11,7 +11,6 @@ use lib.Seq.{getD-set-same, getD-set-other, set-out, ext-getD}
 use lib.Arith.{digits-lt}
 use lib.Pow.{shr-lt, pow-pos, pow-add, shr-shr, high, low, mod-pow-add, mod-mod-pow}
 use lib.Pow as P
-use native.Mathlib.Decide.{decLt}
 use Rattle.bits.specs.Bits.{digit, bit, run, field, withDigit, putBit, putField}
 use Rattle.bits.specs.Windows.{little}
 
@@ -249,18 +248,6 @@ little-digit bs hb i zero k h = omega arith
 little-digit bs hb i (suc n) k h =
     little-step (getD bs i 0) (little bs (i + 1) n) k (hb i) (bit bs (8 * i + k)) (λ l. sym (bit-at bs i k l))
     (λ j e. little-digit bs hb (i + 1) n j (omega arith) ∙ ap (bit bs) (omega arith))
-
--- a field lies in a window
-pub field-little : (bs : List ℕ) → Bytes bs → (s w n : ℕ) → s % 8 + w ≤ 8 * n → field bs s w ≡ little bs (s / 8) n / 2 ^ (s % 8) % 2 ^ w
-field-little bs hb s w n h =
-    run-ext (bit bs) (digit (little bs (s / 8) n)) s (s % 8) w
-    (λ i l. sym (little-digit bs hb (s / 8) n (s % 8 + i) (omega arith) ∙ ap (bit bs) (omega arith)))
-    ∙ run-digits (little bs (s / 8) n) (s % 8) w
-
-pub little-lt : (bs : List ℕ) → Bytes bs → (i n : ℕ) → little bs i n < 256 ^ n
-unfolding little
-little-lt bs hb i zero = omega arith
-little-lt bs hb i (suc n) = omega (arith, hb i, little-lt bs hb (i + 1) n, pow-suc 256 n)
 
 -- the machine's `1 << k` at b bits
 pub one-shl : (k b : ℕ) → k < b → 1 * 2 ^ k % 2 ^ b ≡ 2 ^ k

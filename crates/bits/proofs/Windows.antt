@@ -3,12 +3,12 @@ use mathlib.Core.Path.{_≡_, refl, sym, ap, ap₂, _∙_, subst}
 use mathlib.Core.Logic.{_⊎_, inl, inr, ⊎-elim}
 use mathlib.Core.List.{List}
 use Prim.Native.Nat.{ℕ, zero, suc, _+_, _-_, _*_, _/_, _%_, _^_, _≤_, _<_}
-use native.Mathlib.Nat.{le-dest, not-suc-le-zero, mod-lt, mod-eq-of-lt, le-mul-of-pos-right, div-mul-le-self}
+use native.Mathlib.Nat.{le-dest, mod-lt, mod-eq-of-lt, le-mul-of-pos-right, div-mul-le-self}
 use native.Mathlib.Omega.{arith}
 use lib.ListN.{length, getD, set, drop, length-set}
 use lib.Seq.{getD-set-same, getD-set-other, getD-drop}
 use lib.Arith.{digits-lt}
-use lib.Pow.{pow-pos, pow-add, shr-lt, shr-le, pow-lt}
+use lib.Pow.{pow-pos, pow-add, shr-lt, shr-le}
 use Rattle.bits.specs.Bits.{digit, bit, run, field, putField}
 use Rattle.bits.specs.Windows.{little, putLittle}
 use Rattle.bits.proofs.Laws.{run-ext, run-digits, digit-shift, digit-mod, digit-high, digit-low, bit-at, little-digit, Bytes, all-set, le-or-lt, ext-bits, length-putField, bytes-putField, bit-in, bit-out, one-shl}

@@ -1,6 +1,6 @@
 -- A window of bytes, through which a field is read and written. Only this crate's own functions speak of it.
 use mathlib.Core.List.{List}
-use Prim.Native.Nat.{ℕ, zero, suc, _+_, _*_, _/_, _%_, _^_, _≤_}
+use Prim.Native.Nat.{ℕ, zero, suc, _+_, _*_, _/_, _%_, _≤_}
 use lib.ListN.{getD, set}
 
 -- the n bytes from i on as a number, the lowest first

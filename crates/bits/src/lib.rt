@@ -1,6 +1,7 @@
-// Bits and fields of bits in lent bytes. A field goes through one window of four bytes that always lies inside.
+// Bits and fields of bits in lent bytes. A field goes through one window of four bytes that always lies inside. Four bytes hold a
+// field of up to 25 bits wherever in a byte it starts: fields to 24 bits, and one bit to spare.
 ghost use mathlib.Core.Path.{_≡_};
-ghost use Prim.Native.Nat.{ℕ, _+_, _*_, _/_, _%_, _^_, _≤_, _<_};
+ghost use Prim.Native.Nat.{_+_, _*_, _/_, _%_, _^_, _≤_, _<_};
 ghost use lib.ListN.{length, getD, set};
 ghost use Rattle.bits.specs.Bits.{bit, field, putBit, putField};
 ghost use Rattle.bits.specs.Windows.{little, putLittle, Window};

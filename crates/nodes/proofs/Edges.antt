@@ -1,8 +1,8 @@
 -- The neighbour across the long side: none of node 1, mutual, of the node's depth, and, seen from two levels up,
 -- in the same node or across that node's own long side.
-use mathlib.Core.Path.{_≡_, refl, sym, _∙_, ap, subst}
+use mathlib.Core.Path.{_≡_, refl, _∙_, ap, subst}
 use mathlib.Core.Logic.{_≢_, _⊎_, inl, inr}
-use Prim.Native.Nat.{ℕ, zero, suc, _+_, _-_, _*_, _/_, _%_, _^_, _≤_, _<_, min}
+use Prim.Native.Nat.{ℕ, _+_, _-_, _*_, _/_, _%_, _≤_, _<_}
 use native.Mathlib.Omega.{arith}
 use native.Mathlib.Decide.{decLe, decLt}
 use Rattle.nodes.specs.Depth.{depthOf, depthIn}
@@ -27,9 +27,11 @@ edge-low n z = go (decLt n 1) (decLt n 2)
     go (no p) (yes q) = absurd (z (ap edge (let e : n ≡ 1 = omega arith in e) ∙ edge-root))
     go (no p) (no q) = omega arith
 
+-- edge is mutual
 pub edge-mutual : (n : ℕ) → edge n ≢ 0 → edge (edge n) ≡ n
 edge-mutual n z = mutually n (edge-low n z) .by-edge (omega arith) .again
 
+-- the edge neighbour has the node's depth
 pub edge-depth : (n : ℕ) → edge n ≢ 0 → depthOf (edge n) ≡ depthOf n
 edge-depth n z = mutually n (edge-low n z) .by-edge (omega arith) .level
 

@@ -1,5 +1,14 @@
 pub mod Depths
 pub mod Neighbouring
 pub mod Edges
+pub mod Cornering
+pub mod Midpoints
+pub mod Sides
+pub mod Borders
+pub mod Areas
+pub mod Descents
 pub mod Tables
 pub mod Mirrors
+pub mod Outcomes
+pub mod Refusing
+pub mod Known

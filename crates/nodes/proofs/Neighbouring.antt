@@ -1,13 +1,14 @@
 -- A node's neighbours: the two child rules as laws, and what follows by induction over nodes: neighbours are mutual and of one depth.
 use mathlib.Core.Path.{_≡_, refl, sym, _∙_, ap, subst}
-use mathlib.Core.Logic.{_≢_, _⊎_, inl, inr, _↔_}
+use mathlib.Core.Logic.{_≢_, _↔_}
 use Prim.Native.Nat.{ℕ, zero, suc, _+_, _-_, _*_, _/_, _%_, _^_, _≤_, _<_, min}
 use native.Mathlib.Omega.{arith}
-use native.Mathlib.Decide.{decLe, decLt}
+use native.Mathlib.Decide.{decLe}
 use Rattle.nodes.specs.declared.triples.Triple.{Triple}
 use Rattle.nodes.specs.Depth.{depthOf, depthIn}
-use Rattle.nodes.specs.Neighbours.{rightChild, leftTriple, rightTriple, firstTriple, childTriple, neighboursAt, neighboursOf, edge}
-use Rattle.nodes.proofs.Depths.{At, at-depth, depth-is, depth-left, depth-right, depth-pos, depth-half, depth-zero, node-ind}
+use Rattle.nodes.specs.Neighbours.{none, rightChild, leftTriple, rightTriple, firstTriple, neighboursAt, neighboursOf, edge}
+use lib.Pow.{pow-pos}
+use Rattle.nodes.proofs.Depths.{depth-is, depth-left, depth-right, depth-pos, depth-le, below-depth, node-ind}
 
 -- `rightChild` as a sum, which `omega` reads
 pub right-child : (x : ℕ) → rightChild x ≡ 2 * x + min x 1
@@ -123,3 +124,53 @@ mutual-right n p m = record {
 
 pub mutually : (n : ℕ) → 2 ≤ n → Mutual n
 mutually = node-ind Mutual mutual-two mutual-three mutual-left mutual-right
+
+-- at depth 1
+pub first-triple : (n : ℕ) → 2 ≤ n → n < 4 → neighboursOf n ≡ firstTriple n
+unfolding neighboursOf neighboursAt
+first-triple n p q =
+    let d : depthOf n ≡ 1 = depth-is {d = 1} {n = n} (record { low = p; high = q }) in rw d
+
+-- the neighbours of a node below 2 ^ (D + 1) are below it too
+
+pub record Below (limit : ℕ) (t : Triple) : Type 0 where
+  pub left : t .left < limit
+  pub right : t .right < limit
+  pub edge : t .edge < limit
+
+one-below : (f : Triple → ℕ) (x n D : ℕ) → 2 ≤ n → n < 2 ^ (D + 1) → (1 ≤ x → Back f x n) → x < 2 ^ (D + 1)
+one-below f zero n D p h b = omega (arith, pow-pos (D + 1))
+one-below f (suc x) n D p h b =
+    below-depth (suc x) D (omega arith) (omega (arith, depth-le n D h, b (omega arith) .level))
+
+pub neighbours-below : (n D : ℕ) → 2 ≤ n → n < 2 ^ (D + 1) → Below (2 ^ (D + 1)) (neighboursOf n)
+neighbours-below n D p h =
+    let m = mutually n p in record {
+      left = one-below rightIn (neighboursOf n .left) n D p h (m .by-left);
+      right = one-below leftIn (neighboursOf n .right) n D p h (m .by-right);
+      edge = one-below edgeIn (neighboursOf n .edge) n D p h (m .by-edge);
+    }
+
+-- ---- what the rules promise
+
+no-triple : neighboursOf 1 ≡ none
+unfolding neighboursOf neighboursAt depthOf depthIn
+no-triple = refl
+
+-- x has left y exactly when y has right x (y not 0)
+pub left-right : (x y : ℕ) → 2 ≤ x → y ≢ 0 → (neighboursOf x .left ≡ y) ↔ (neighboursOf y .right ≡ x)
+left-right x y p z = (there, λ e. back e (decLe 2 y))
+  where
+    there : neighboursOf x .left ≡ y → neighboursOf y .right ≡ x
+    there e = subst (λ i. neighboursOf i .right ≡ x) e (mutually x p .by-left (omega arith) .again)
+
+    back : neighboursOf y .right ≡ x → Dec (2 ≤ y) → neighboursOf x .left ≡ y
+    back e (yes q) = subst (λ i. neighboursOf i .left ≡ y) e (mutually y q .by-right (omega arith) .again)
+    back e (no q) = let o : y ≡ 1 = omega arith in absurd (omega (arith, ap rightIn (ap neighboursOf o ∙ no-triple)))
+
+-- neighbours have the node's depth
+pub left-depth : (n : ℕ) → 2 ≤ n → neighboursOf n .left ≢ 0 → depthOf (neighboursOf n .left) ≡ depthOf n
+left-depth n p z = mutually n p .by-left (omega arith) .level
+
+pub right-depth : (n : ℕ) → 2 ≤ n → neighboursOf n .right ≢ 0 → depthOf (neighboursOf n .right) ≡ depthOf n
+right-depth n p z = mutually n p .by-right (omega arith) .level

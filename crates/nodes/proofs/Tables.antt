@@ -1,10 +1,12 @@
 -- One law serves every call: by one table, one input has one outcome. And how a `return` makes an outcome.
 use mathlib.Core.Path.{_≡_, refl, sym, _∙_}
-use mathlib.Core.Bool.{Bool, true, false, true≢false}
-use mathlib.Core.Logic.{_≢_, _⊎_, inl, inr}
-use mathlib.Core.List.{List, [], _∷_}
+use mathlib.Core.Bool.{true, false, true≢false}
+use mathlib.Core.Logic.{_≢_, inl, inr}
+use mathlib.Core.List.{List, [], _∷_, _++_}
 use Prim.Native.Nat.{ℕ}
 use native.Mathlib.Decide.{ℕ-discrete}
+use lib.Dec.{eqb}
+use borrow.Author.Tests.{eqb-true, eqb-false}
 use Rattle.nodes.specs.Table.{Row, Answers, Outcome, Says}
 
 pub answers-one : (rows : List Row) (n m : ℕ) → Answers rows n → Answers rows m → n ≡ m
@@ -34,10 +36,19 @@ module _ {rows : List Row} {A : Type 0} {Done Refused : A → Type 0} {x : A} wh
   pub is-refused : {n : ℕ} → n ≢ 0 → Answers rows n → Refused x → Outcome rows A Done Refused n x
   is-refused z a r = record { answer = a; done = λ e. absurd (z e); refused = λ _. r }
 
--- ---- tests
+-- a refusal by the first rows of a table is one by the whole table
+pub refused-more : (rows more : List Row) (n : ℕ) → n ≢ 0 → Answers rows n → Answers (rows ++ more) n
+refused-more [] more n z a = absurd (z a)
+refused-more (r ∷ rows) more n z (inl p) = inl p
+refused-more (r ∷ rows) more n z (inr p) = inr (p .0, refused-more rows more n z (p .1))
+
+-- ---- a test that says whether P holds
 
 pub says-yes : {P : Type 0} → P → Says P true
 says-yes p = record { yes = λ _. p; no = λ e. absurd (true≢false e) }
 
 pub says-no : {P : Type 0} → (P → ⊥) → Says P false
-says-no f = record { yes = λ e. absurd (true≢false (sym e)); no = λ _. f }
+says-no h = record { yes = λ e. absurd (true≢false (sym e)); no = λ _. h }
+
+pub says-equal : {P : Type 0} (a b : ℕ) → (a ≡ b → P) → (P → a ≡ b) → Says P (eqb a b)
+says-equal a b to from = record { yes = λ e. to (eqb-true a b e); no = λ e p. eqb-false a b e (from p) }

@@ -1,7 +1,5 @@
 -- The number and the values that "When the scanner says no" gives to each case of an answer. Beside a refusal every other number is 0.
 use Prim.Native.Nat.{ℕ}
-use Rattle.nodes.specs.declared.numbers.Node.{Node}
-use Rattle.nodes.specs.declared.numbers.LeafNumber.{LeafNumber}
 use Rattle.nodes.specs.declared.triples.Triple.{Triple}
 use Rattle.nodes.specs.declared.refusals.Refusal.{Refusal}
 use Rattle.nodes.specs.declared.refusals.Refusal.the-variants.{WrongLength, NotGood, NoSuchNode, NotLeaf, AtGreatestDepth, AtDepthOne, LeavesMissing, NoSuchNumber, BadRecord}

@@ -5,16 +5,23 @@ pub mod triples; // the neighbour triple and the call `neighbours`
 pub mod longside; // the edge neighbour alone
 pub mod triangles; // both child matrices and the call `corners`
 
+pub use longside::edge_of;
+pub use numbers::GREATEST_DEPTH;
+pub use numbers::GREATEST_NODE;
+pub use numbers::LEAST_DEPTH;
 pub use numbers::LeafNumber;
 pub use numbers::Node;
 pub use numbers::depth;
-pub use numbers::LEAST_DEPTH;
-pub use numbers::GREATEST_DEPTH;
 pub use refusals::Answer;
 pub use refusals::Around;
 pub use refusals::Counted;
 pub use refusals::Found;
 pub use refusals::Numbered;
 pub use refusals::Refusal;
+pub use triangles::corners;
+pub use triangles::corners_of;
+pub use triangles::left_corners;
+pub use triangles::right_corners;
 pub use triples::Triple;
-pub use longside::edge_of;
+pub use triples::neighbours;
+pub use triples::triple_of;

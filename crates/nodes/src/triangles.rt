@@ -1,1 +1,79 @@
-// Corners.
+// A node's corners: three points of two coordinates, in the order A, B, C.
+use crate::numbers::Node;
+use crate::numbers::depth;
+use crate::numbers::known;
+use crate::refusals::Refusal;
+ghost use mathlib.Core.Path.{_≡_};
+ghost use Prim.Native.Nat.{_%_, _≤_};
+ghost use Rattle.nodes.specs.Corners.{InPanel, InSquare, midpoint, firstTriangle, leftTriangle, rightTriangle, cornersOf};
+ghost use Rattle.nodes.specs.Calls.{Corners};
+
+// The midpoint of two points.
+fn middle(a: [u32; 2], c: [u32; 2]) -> [u32; 2]
+    requires { ⌜ InSquare a × InSquare c ⌝ }
+    ensures { λ r. ⌜ r ≡ midpoint a c ⌝ }
+{
+    [(a[0] + c[0]) / 2, (a[1] + c[1]) / 2]
+}
+
+// From a triangle to its left child: (A, M, B).
+pub fn left_corners(t: [[u32; 2]; 3]) -> [[u32; 2]; 3]
+    requires { ⌜ InPanel t ⌝ }
+    ensures { λ r. ⌜ r ≡ leftTriangle t ⌝ }
+{
+    let m = middle(t[0], t[2]);
+    [t[0], m, t[1]]
+}
+
+// From a triangle to its right child: (B, M, C).
+pub fn right_corners(t: [[u32; 2]; 3]) -> [[u32; 2]; 3]
+    requires { ⌜ InPanel t ⌝ }
+    ensures { λ r. ⌜ r ≡ rightTriangle t ⌝ }
+{
+    let m = middle(t[0], t[2]);
+    [t[1], m, t[2]]
+}
+
+// The corners of node 2 and of node 3.
+fn first_corners(n: Node) -> [[u32; 2]; 3]
+    ensures { λ r. ⌜ r ≡ firstTriangle (n .0 % 2) ⌝ }
+{
+    if n.0 % 2 == 0 {
+        return [[0, 256], [0, 0], [256, 0]];
+    }
+    [[256, 0], [256, 256], [0, 256]]
+}
+
+// The corners of n, level by level down from node 2 or 3.
+pub fn corners_of(n: Node) -> [[u32; 2]; 3]
+    requires { ⌜ 2 ≤ n .0 ⌝ }
+    ensures { λ r. ⌜ r ≡ cornersOf (n .0) ⌝ }
+{
+    let k = n.0;
+    let mut levels = depth(n) - 1;
+    let mut t = first_corners(Node(k >> levels));
+    while levels > 0 {
+        levels -= 1;
+        if (k >> levels) % 2 == 0 {
+            let next = left_corners(t);
+            t = next;
+        } else {
+            let next = right_corners(t);
+            t = next;
+        }
+    }
+    t
+}
+
+// The corners of n, and into `answer` the answer's number; refused below 2 and above the greatest node.
+pub fn corners(n: Node, answer: &mut u32) -> [[u32; 2]; 3]
+    ensures { λ r. ⌜ Corners (n .0) (now (answer .exit)) r ⌝ }
+{
+    if !known(n) {
+        let refusal = Refusal::NoSuchNode;
+        *answer = refusal.number();
+        return [[0, 0], [0, 0], [0, 0]];
+    }
+    *answer = 0;
+    corners_of(n)
+}

@@ -2,4 +2,5 @@ pub mod Cuts
 pub mod Panels
 pub mod Calls
 pub mod Judging
+pub mod Opening
 pub mod Descents

@@ -50,18 +50,25 @@ pub fn is_cut(panel: &[u8], deep: usize, n: Node) -> bool
     sums::leaf_bit(panel, deep, cut_place(deep, n)) == 1
 }
 
-// Whether the node that leaf bit p names may be cut: its parent is, and its edge neighbour, where that is a node.
-fn follows(panel: &[u8], deep: usize, p: usize) -> bool
-    requires { ⌜ Room deep (now panel) × (0 < p) × (p < 2 ^ deep) ⌝ }
-    ensures { λ r. ⌜ Says (Follows (Cut deep (leafBit deep (now (panel .entry)))) (named deep p)) r ⌝ }
+// The node that leaf bit p names: with t trailing zeros in p, (2^D + p) / 2^t is a right child, and this its parent.
+fn named_node(deep: usize, p: usize) -> Node
+    requires { ⌜ (deep ≤ 17) × (0 < p) × (p < 2 ^ deep) ⌝ }
+    ensures { λ r. ⌜ r .0 ≡ named deep p ⌝ }
 {
     let t = u32::trailing_zeros(p as u32);
-    let n = (((1usize << deep) + p) >> t) as u32 / 2;
-    if n < 2 {
+    Node((((1usize << deep) + p) >> t) as u32 / 2)
+}
+
+// Whether n may be cut: its parent is, and its edge neighbour, where that is a node.
+fn may_be_cut(panel: &[u8], deep: usize, n: Node) -> bool
+    requires { ⌜ Room deep (now panel) × (1 ≤ n .0) × (n .0 < 2 ^ deep) ⌝ }
+    ensures { λ r. ⌜ Says (Follows (Cut deep (leafBit deep (now (panel .entry)))) (n .0)) r ⌝ }
+{
+    if n.0 < 2 {
         return true;
     }
-    if is_cut(panel, deep, Node(n / 2)) {
-        let e = nodes::edge_of(Node(n));
+    if is_cut(panel, deep, Node(n.0 / 2)) {
+        let e = nodes::edge_of(n);
         if e == 0 {
             return true;
         }
@@ -79,8 +86,7 @@ fn cuts_good(panel: &[u8], deep: usize) -> bool
         let mut p: usize = 1;
         while p < 1usize << deep {
             if sums::leaf_bit(panel, deep, p) == 1 {
-                if follows(panel, deep, p) {
-                } else {
+                if may_be_cut(panel, deep, named_node(deep, p)) {} else {
                     return false;
                 }
             }
@@ -89,4 +95,22 @@ fn cuts_good(panel: &[u8], deep: usize) -> bool
         return true;
     }
     false
+}
+
+// Whether the panel is good: 0, or refusal 1 or 2.
+pub fn judge(panel: &[u8]) -> Answer
+    ensures { λ r. ⌜ Judged (now (panel .entry)) (answerNumber r) ⌝ }
+{
+    let deep = depth_of(panel);
+    if deep == 0 {
+        return Answer::No(Refusal::WrongLength);
+    }
+    if sums::all_right(panel, deep) {
+        if sums::leaf_bit(panel, deep, 0) == 1 {
+            if cuts_good(panel, deep) {
+                return Answer::Done;
+            }
+        }
+    }
+    Answer::No(Refusal::NotGood)
 }

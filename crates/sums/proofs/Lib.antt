@@ -1,2 +1,12 @@
 pub mod Slots
 pub mod Rooms
+pub mod Places
+pub mod Steps
+pub mod Leaves
+pub mod Unique
+pub mod Sevens
+pub mod Rows
+pub mod Lowest
+pub mod Heads
+pub mod Ranks
+pub mod Counts

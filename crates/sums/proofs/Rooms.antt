@@ -1,16 +1,21 @@
 -- Where the words have room, every place that the code computes fits the machine's numbers and lies inside.
-use mathlib.Core.Path.{_≡_, ap, _∙_}
+use mathlib.Core.Path.{_≡_, sym, ap, _∙_}
 use mathlib.Core.List.{List}
-use Prim.Native.Nat.{ℕ, _+_, _-_, _*_, _^_, _≤_, _<_}
+use Prim.Native.Nat.{ℕ, _+_, _-_, _*_, _%_, _^_, _≤_, _<_}
+use native.Mathlib.Nat.{mod-eq-of-lt}
 use native.Mathlib.Omega.{arith}
 use lib.ListN.{length}
 use lib.Pow.{pow-mono, pow-add}
 use Rattle.nodes.specs.Depth.{depthOf}
 use Rattle.nodes.proofs.Depths.{pow-next, depth-le}
 use Rattle.sums.specs.Words.{width, Room}
-use Rattle.sums.proofs.Slots.{from, in-panel}
+use Rattle.sums.proofs.Slots.{from, row-from, in-panel}
 
--- the leaf bits fill whole bytes, and all words take four times their place
+-- the leaf bits fill whole bytes
+pub whole-bytes : (D : ℕ) → 3 ≤ D → 2 ^ D ≡ 8 * 2 ^ (D - 3)
+whole-bytes D h = ap (λ (x : ℕ). 2 ^ x) {x = D} {y = D - 3 + 3} (omega arith) ∙ pow-add 2 (D - 3) 3 ∙ omega arith
+
+-- all words take four times the place of the leaf bits
 pub record Bounds (D : ℕ) : Type 0 where
   pub leaves : 2 ^ D ≤ 131072
   pub eight : 8 ≤ 2 ^ D
@@ -22,13 +27,16 @@ pub bounds : {D : ℕ} {bs : List ℕ} → Room D bs → Bounds D
 bounds {D} {bs} r = record {
   leaves = pow-mono {i = D} {j = 17} (r .high);
   eight = pow-mono {i = 3} {j = D} (r .low);
-  whole = ap (λ (x : ℕ). 2 ^ x) {x = D} {y = D - 3 + 3} (omega arith) ∙ pow-add 2 (D - 3) 3 ∙ omega arith;
+  whole = whole-bytes D (r .low);
   words = pow-next D;
   all = pow-add 2 D 2 ∙ omega arith;
 }
 
 pub room-bytes : {D : ℕ} {bs : List ℕ} → Room D bs → 4 ≤ length bs
 room-bytes r = omega (arith, bounds r)
+
+pub room-same : {D : ℕ} {xs ys : List ℕ} → length ys ≡ length xs → Room D xs → Room D ys
+room-same e r = record { low = r .low; high = r .high; long = omega arith }
 
 -- the place of word k, as the code computes it from the depth d
 pub record Placed (D k d len : ℕ) : Type 0 where
@@ -51,3 +59,9 @@ placed {D} {k} {d} {bs} r hk e =
       inside = omega arith;
       bytes = room-bytes r;
     }
+
+-- the code's shift to a row's start loses nothing
+pub row-shift : {D d w : ℕ} {bs : List ℕ} → Room D bs → d ≤ D → w ≡ D - d + 3 → w * 2 ^ d % 2 ^ 64 ≡ w * 2 ^ d
+row-shift {D} {d} {w} r h e =
+    let s : w * 2 ^ d ≡ from D (2 ^ d) = ap (λ (x : ℕ). x * 2 ^ d) e ∙ sym (row-from D d h) in
+    mod-eq-of-lt (omega (arith, bounds r, in-panel D (2 ^ d) (omega (arith, pow-mono {i = d} {j = D} h, bounds r))))

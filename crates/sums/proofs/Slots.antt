@@ -1,19 +1,19 @@
 -- The words lie one behind the other: word k + 1 starts where word k ends, and the last ends at bit 2 ^ (D + 2).
-use mathlib.Core.Path.{_≡_, refl, sym, ap, ap₂, _∙_, subst}
+use mathlib.Core.Path.{_≡_, sym, ap, ap₂, _∙_, subst}
 use mathlib.Core.Logic.{_⊎_, inl, inr, ⊎-elim}
 use mathlib.Core.List.{List}
-use Prim.Native.Nat.{ℕ, zero, suc, _+_, _-_, _*_, _/_, _%_, _^_, _≤_, _<_, suc-le-suc, zero-le}
-use native.Mathlib.Nat.{add-mul, mul-add, one-mul, mul-one, mul-zero, zero-mul, pow-suc, zero-lt-suc, le-trans, le-of-eq, le-refl}
+use Prim.Native.Nat.{ℕ, zero, suc, _+_, _-_, _*_, _^_, _≤_, _<_}
+use native.Mathlib.Nat.{add-mul, mul-add, mul-comm, one-mul, mul-one, mul-zero, zero-mul, zero-lt-suc, le-trans, le-refl}
 use native.Mathlib.Decide.{le-ind}
 use native.Mathlib.Numerals.{add-one}
 use native.Mathlib.Omega.{arith}
 use lib.ListN.{length}
-use lib.Pow.{pow-mono, pow-add, pow-pos}
-use Rattle.bits.proofs.Laws.{Bytes, ext-bits, run-inj, bit-lt, le-or-lt, order, field-put-same, field-put-other, field-lt, length-putField}
+use lib.Pow.{pow-pos}
+use Rattle.bits.proofs.Laws.{Bytes, ext-bits, run-inj, bit-lt, le-or-lt, order, run-ext, Out, bit-out, bytes-putField, field-put-same, field-put-other, field-lt, length-putField}
 use Rattle.bits.proofs.Windows.{field-one}
-use Rattle.bits.specs.Bits.{bit, field, putField}
+use Rattle.bits.specs.Bits.{bit, field}
 use Rattle.nodes.specs.Depth.{depthOf}
-use Rattle.nodes.proofs.Depths.{At, pow-next, at-from, at-below, at-depth, depth-is, depth-le, depth-zero}
+use Rattle.nodes.proofs.Depths.{at-root, pow-next, at-from, at-below, at-depth, depth-is, depth-le, depth-zero}
 use Rattle.sums.specs.Words.{width, start, word, putWord, leafBit}
 
 -- within a row
@@ -34,6 +34,14 @@ from D k = start D (depthOf k) k
 
 abbrev pub wide : ℕ → ℕ → ℕ
 wide D k = width D (depthOf k)
+
+-- where row d starts
+pub row-from : (D d : ℕ) → d ≤ D → from D (2 ^ d) ≡ (D - d + 3) * 2 ^ d
+row-from D d h =
+    let o : depthOf (2 ^ d) ≡ d = depth-is {d = d} {n = 2 ^ d} (at-from (le-refl (2 ^ d)) (omega (arith, pow-next d, pow-pos d))) in
+    let w : D + 1 - d ≡ D - d + 1 = omega arith in
+    ap (λ (x : ℕ). start D x (2 ^ d)) o
+    ∙ omega (arith, ap (λ (x : ℕ). 2 ^ d * x) w, mul-add (2 ^ d) (D - d) 1, add-mul (D - d) 3 (2 ^ d), mul-comm (2 ^ d) (D - d), pow-next d)
 
 pub packed : (D k : ℕ) → k < 2 ^ (D + 1) → from D (k + 1) ≡ from D k + wide D k
 packed D zero h =
@@ -82,10 +90,41 @@ module _ (D : ℕ) (bs : List ℕ) (k v : ℕ) (hk : k < 2 ^ (D + 1)) where
       field-put-other bs (from D k) (wide D k) v (from D j) (wide D j)
       (⊎-elim (λ l. inl (apart D j k l (omega arith))) (⊎-elim (λ e. absurd (n e)) (λ l. inr (apart D k j l (omega arith)))) (order j k))
 
--- ---- the words and bits 0 and 1 make the whole panel
+-- a word at depth d fits D - d + 1 bits
+pub word-lt : (D : ℕ) (bs : List ℕ) (k : ℕ) → word D bs k < 2 ^ wide D k
+unfolding word
+word-lt D bs k = field-lt bs (from D k) (wide D k)
+
+pub length-putWord : (D : ℕ) (bs : List ℕ) (k v : ℕ) → length (putWord D bs k v) ≡ length bs
+unfolding putWord
+length-putWord D bs k v = length-putField bs (from D k) (wide D k) v
+
+pub bytes-putWord : (D : ℕ) (bs : List ℕ) (k v : ℕ) → Bytes bs → Bytes (putWord D bs k v)
+unfolding putWord
+bytes-putWord D bs k v h = bytes-putField bs (from D k) (wide D k) v h
+
+-- a write to a word leaves every bit outside it
+pub bit-put-word : (D : ℕ) (bs : List ℕ) (k v p : ℕ) → Out (from D k) (wide D k) p → bit (putWord D bs k v) p ≡ bit bs p
+unfolding putWord
+bit-put-word D bs k v p h = bit-out bs (from D k) (wide D k) v p h
+
+-- a word stays where its bits do
+pub word-same : (D k : ℕ) (xs ys : List ℕ) → ((p : ℕ) → from D k ≤ p → p < from D k + wide D k → bit ys p ≡ bit xs p) → word D ys k ≡ word D xs k
+unfolding word
+word-same D k xs ys h =
+    run-ext (bit ys) (bit xs) (from D k) (from D k) (wide D k) (λ i l. h (from D k + i) (omega arith) (omega arith))
+
+-- ---- bits 0 and 1, the words, and what stands behind them make the whole
 
 pub from-zero : (D : ℕ) → from D 0 ≡ 2
 from-zero D = ap (λ (d : ℕ). start D d 0) depth-zero ∙ omega (arith, zero-mul (D + 1 - 0))
+
+pub from-one : (D : ℕ) → from D 1 ≡ D + 3
+from-one D = ap (λ (d : ℕ). start D d 1) {x = depthOf 1} {y = 0} (depth-is at-root) ∙ omega arith
+
+-- the leaf bits stand at the end
+pub from-leaf : (D : ℕ) → from D (2 ^ D) ≡ 3 * 2 ^ D
+from-leaf D = row-from D D (le-refl D) ∙ ap (λ (x : ℕ). (x + 3) * 2 ^ D) {x = D - D} {y = 0} (omega arith)
 
 -- the word that holds bit p
 pub holder : (D p n : ℕ) → n ≤ 2 ^ (D + 1) → 2 ≤ p → p < from D n → (k : ℕ) × (k < 2 ^ (D + 1)) × (from D k ≤ p) × (p < from D k + wide D k)
@@ -94,16 +133,22 @@ holder D p (suc n) hn h l =
     ⊎-elim (λ a. (n, omega arith, a, omega (arith, packed D n (omega arith), ap (from D) (add-one n))))
     (λ a. holder D p n (omega arith) h a) (le-or-lt (from D n) p)
 
-pub words-ext : (D : ℕ) (xs ys : List ℕ) → Bytes xs → Bytes ys → 8 * length xs ≡ 2 ^ (D + 2) → length xs ≡ length ys
-    → ((p : ℕ) → p < 2 → bit xs p ≡ bit ys p) → ((k : ℕ) → k < 2 ^ (D + 1) → word D xs k ≡ word D ys k) → xs ≡ ys
+-- the words hold every bit from bit 2 on, before bit 2 ^ (D + 2)
+pub words-bits : (D : ℕ) (xs ys : List ℕ) → ((k : ℕ) → k < 2 ^ (D + 1) → word D xs k ≡ word D ys k) → (p : ℕ) → 2 ≤ p → p < 2 ^ (D + 2) → bit xs p ≡ bit ys p
 unfolding word
-words-ext D xs ys hx hy l e low h =
-    ext-bits xs ys hx hy e (λ p b. ⊎-elim (λ a.
+words-bits D xs ys h p a b =
     let k = holder D p (2 ^ (D + 1)) (le-refl (2 ^ (D + 1))) a (omega (arith, from-top D)) in
-    let f : from D (k .0) + (p - from D (k .0)) ≡ p = omega (arith, k .2) in
-    subst (λ (x : ℕ). bit xs x ≡ bit ys x) f
-    (run-inj (bit xs) (bit ys) (bit-lt xs) (bit-lt ys) (from D (k .0)) (from D (k .0)) (wide D (k .0)) (h (k .0) (k .1)) (p - from D (k .0)) (omega (arith, k .2, k .3))))
-    (low p) (le-or-lt 2 p))
+    let s : ℕ = from D (k .0) in
+    let f : s + (p - s) ≡ p = omega (arith, k .2) in
+    subst (λ (x : ℕ). bit xs x ≡ bit ys x) {x = s + (p - s)} f
+    (run-inj (bit xs) (bit ys) (bit-lt xs) (bit-lt ys) s s (wide D (k .0)) (h (k .0) (k .1)) (p - s) (omega (arith, k .2, k .3)))
+
+-- bits 0 and 1, the words, and the bits behind the last word make the whole
+pub words-ext : (D : ℕ) (xs ys : List ℕ) → Bytes xs → Bytes ys → length xs ≡ length ys
+    → ((p : ℕ) → p < 2 → bit xs p ≡ bit ys p) → ((k : ℕ) → k < 2 ^ (D + 1) → word D xs k ≡ word D ys k)
+    → ((p : ℕ) → 2 ^ (D + 2) ≤ p → bit xs p ≡ bit ys p) → xs ≡ ys
+words-ext D xs ys hx hy e low h behind =
+    ext-bits xs ys hx hy e (λ p b. ⊎-elim (λ a. ⊎-elim (behind p) (words-bits D xs ys h p a) (le-or-lt (2 ^ (D + 2)) p)) (low p) (le-or-lt 2 p))
 
 -- a leaf's word is one bit, counted from bit 3 * 2 ^ D on
 pub leaf-word : (D p : ℕ) (bs : List ℕ) → p < 2 ^ D → word D bs (2 ^ D + p) ≡ leafBit D bs p

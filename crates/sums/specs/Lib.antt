@@ -1,3 +1,5 @@
 pub mod Words
 pub mod Sums
 pub mod Rank
+pub mod Made
+pub mod Rows

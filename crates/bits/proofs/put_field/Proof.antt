@@ -1,19 +1,14 @@
-use mathlib.Core.Path.{_≡_, sym, ap, ap₂, _∙_, subst, subst⁻¹}
-use Prim.Native.Nat.{ℕ, _+_, _-_, _*_, _/_, _%_, _^_, _≤_, _<_}
+-- The window holds the field, so storing the window with w digits replaced is putting the field; the machine's shifts lose nothing.
+use mathlib.Core.Path.{ap, _∙_, subst⁻¹}
+use Prim.Native.Nat.{ℕ, _+_, _-_, _*_, _^_, _≤_, _<_}
 use native.Mathlib.Omega.{arith}
 use lib.Pow.{pow-pos}
-use Rattle.bits.specs.Bits.{field, putField}
-use Rattle.bits.specs.Windows.{little, putLittle}
+use Rattle.bits.specs.Windows.{putLittle}
 use Rattle.bits.proofs.Laws.{one-shl}
-use Rattle.bits.proofs.Windows.{withField, field-window, put-window, shifted, whole, head-lt}
+use Rattle.bits.proofs.Windows.{withField, put-window, shifted, whole, head-lt}
 use borrow.Author.Needs.{needs}
 use Rattle.bits.proofs.put_field.Statement.{statement}
 use Rattle.bits.proofs.put_field.Tie as tie
-use Rattle.bits.proofs.put_field.Reads as reads
-use Rattle.bits.proofs.put_field.Lts as lts
-use Rattle.bits.proofs.place.Reads as place-reads
-use Rattle.bits.proofs.store_window.Reads as store-window-reads
-use Rattle.bits.proofs.window.Reads as window-reads
 
 -- the window holds the field
 here : (c : tie.After-place) → let a = c .before .before .args in let i = c .place .result in (8 * i ≤ a .s) × (a .s + a .w ≤ 8 * i + 8 * 4) × (a .s - 8 * i < 32) × (a .s - 8 * i + a .w ≤ 32)
@@ -21,74 +16,57 @@ here c =
     let h = c .place .ensures .high (c .before .before .args .w) (omega arith) (omega arith) in
     (c .place .ensures .low, omega arith, omega arith, omega (arith, c .place .ensures .low))
 
--- src/lib.rt:68:9
 place-requires : tie.Need-place-requires
 place-requires c κs = search needs
 
--- src/lib.rt:69:17
 mul-k : tie.Need-mul-k
 mul-k c = search needs
 
--- src/lib.rt:69:13
 sub-k : tie.Need-sub-k
 sub-k c = search needs
 
--- src/lib.rt:70:9
 window-requires : tie.Need-window-requires
 window-requires c κs = search needs
 
--- src/lib.rt:71:28
 cast-low : tie.Need-cast-low
 cast-low c = omega (arith, here (c .before .before))
 
--- src/lib.rt:71:20
 shl-low : tie.Need-shl-low
 shl-low c = omega (arith, here (c .before .before))
 
--- src/lib.rt:71:15
 rem-low : tie.Need-rem-low
 rem-low c = let h = here (c .before .before) in let k = c .before .before .before .before .args .s - 8 * c .before .before .place .result in subst⁻¹ (λ (x : ℕ). 0 < x) (one-shl k 32 (h .2)) (pow-pos k)
 
--- src/lib.rt:72:21
 cast-high : tie.Need-cast-high
 cast-high c = omega (arith, here (c .before .before))
 
--- src/lib.rt:72:16
 shr-high : tie.Need-shr-high
 shr-high c = omega (arith, here (c .before .before))
 
--- src/lib.rt:72:26
 cast-high-2 : tie.Need-cast-high-2
 cast-high-2 c = search needs
 
--- src/lib.rt:72:16
 shr-high-2 : tie.Need-shr-high-2
 shr-high-2 c = search needs
 
--- src/lib.rt:73:39
 cast-store-window : tie.Need-cast-store-window
 cast-store-window c = search needs
 
--- src/lib.rt:73:31
 shl-store-window : tie.Need-shl-store-window
 shl-store-window c = search needs
 
--- src/lib.rt:73:30
 add-store-window : tie.Need-add-store-window
 add-store-window c =
     let h = here (c .before .before .before) in
     let a = c .before .before .before .before .before .args in
     record { fits = head-lt (c .before .window .result) (a .s - 8 * c .before .before .before .place .result) (a .w) (a .v) (c .before .window .ok) (h .2) (h .3) (search needs) }
 
--- src/lib.rt:73:50
 cast-store-window-2 : tie.Need-cast-store-window-2
 cast-store-window-2 c = omega (arith, here (c .before .before .before))
 
--- src/lib.rt:73:29
 shl-store-window-2 : tie.Need-shl-store-window-2
 shl-store-window-2 c = omega (arith, here (c .before .before .before))
 
--- src/lib.rt:73:28
 add-store-window-2 : tie.Need-add-store-window-2
 add-store-window-2 c =
     let h = here (c .before .before .before) in
@@ -100,15 +78,12 @@ add-store-window-2 c =
           (whole n k (a .w) (a .v) (c .before .window .ok) (h .2) (h .3) (search needs));
     }
 
--- src/lib.rt:73:5
 store-window-requires : tie.Need-store-window-requires
 store-window-requires c κs = search needs
 
--- src/lib.rt:64:1
 same-length : tie.Need-same-length
 same-length c = search needs
 
--- src/lib.rt:64:1
 returns : tie.Need-returns
 returns c =
     let a = c .before .before .before .before .before .before .before .before .args in

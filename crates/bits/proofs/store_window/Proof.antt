@@ -1,47 +1,36 @@
+-- The four stores are those of the definition, one after the other.
 use mathlib.Core.Path.{_≡_}
-use Prim.Native.Nat.{ℕ, _+_}
+use Prim.Native.Nat.{_+_}
 use native.Mathlib.Omega.{arith}
 use Rattle.bits.specs.Windows.{putLittle}
 use borrow.Author.Needs.{needs}
 use Rattle.bits.proofs.store_window.Statement.{statement}
 use Rattle.bits.proofs.store_window.Tie as tie
-use Rattle.bits.proofs.store_window.Reads as reads
-use Rattle.bits.proofs.store_window.Lts as lts
-use Rattle.bits.proofs.put_byte.Reads as put-byte-reads
 
--- src/lib.rt:57:5
 put-byte-requires : tie.Need-put-byte-requires
 put-byte-requires c κs = search needs
 
--- src/lib.rt:58:21
 add-put-byte : tie.Need-add-put-byte
 add-put-byte c = search needs
 
--- src/lib.rt:58:5
 put-byte-requires-2 : tie.Need-put-byte-requires-2
 put-byte-requires-2 c κs = search needs
 
--- src/lib.rt:59:21
 add-put-byte-2 : tie.Need-add-put-byte-2
 add-put-byte-2 c = search needs
 
--- src/lib.rt:59:5
 put-byte-requires-3 : tie.Need-put-byte-requires-3
 put-byte-requires-3 c κs = search needs
 
--- src/lib.rt:60:21
 add-put-byte-3 : tie.Need-add-put-byte-3
 add-put-byte-3 c = search needs
 
--- src/lib.rt:60:5
 put-byte-requires-4 : tie.Need-put-byte-requires-4
 put-byte-requires-4 c κs = search needs
 
--- src/lib.rt:53:1
 same-length : tie.Need-same-length
 same-length c = search needs
 
--- src/lib.rt:53:1
 returns : tie.Need-returns
 unfolding putLittle
 returns c =

@@ -1,3 +1,4 @@
+-- The four reads are those of the definition, and a number of four bytes fits 32 bits.
 use native.Mathlib.Omega.{arith}
 use mathlib.Core.Path.{_≡_, ap}
 use Prim.Native.Nat.{ℕ, _+_}
@@ -6,63 +7,46 @@ use Rattle.bits.specs.Windows.{little}
 use borrow.Author.Needs.{needs}
 use Rattle.bits.proofs.window.Statement.{statement}
 use Rattle.bits.proofs.window.Tie as tie
-use Rattle.bits.proofs.window.Reads as reads
-use Rattle.bits.proofs.window.Lts as lts
-use Rattle.bits.proofs.byte.Reads as byte-reads
 
--- src/lib.rt:20:5
 byte-requires : tie.Need-byte-requires
 byte-requires c κs = search needs
 
--- src/lib.rt:22:28
 add-byte : tie.Need-add-byte
 add-byte c = search needs
 
--- src/lib.rt:22:16
 byte-requires-2 : tie.Need-byte-requires-2
 byte-requires-2 c κs = search needs
 
--- src/lib.rt:23:38
 add-byte-2 : tie.Need-add-byte-2
 add-byte-2 c = search needs
 
--- src/lib.rt:23:26
 byte-requires-3 : tie.Need-byte-requires-3
 byte-requires-3 c κs = search needs
 
--- src/lib.rt:23:65
 add-byte-3 : tie.Need-add-byte-3
 add-byte-3 c = search needs
 
--- src/lib.rt:23:53
 byte-requires-4 : tie.Need-byte-requires-4
 byte-requires-4 c κs = search needs
 
--- src/lib.rt:23:47
 mul-result : tie.Need-mul-result
 mul-result c = search needs
 
--- src/lib.rt:23:26
 add-result : tie.Need-add-result
 add-result c = search needs
 
--- src/lib.rt:23:19
 mul-result-2 : tie.Need-mul-result-2
 mul-result-2 c = search needs
 
--- src/lib.rt:22:16
 add-result-2 : tie.Need-add-result-2
 add-result-2 c = search needs
 
--- src/lib.rt:21:11
 mul-result-3 : tie.Need-mul-result-3
 mul-result-3 c = search needs
 
--- src/lib.rt:20:5
 add-result-3 : tie.Need-add-result-3
 add-result-3 c = search needs
 
--- src/lib.rt:16:1
 returns : tie.Need-returns
 unfolding little
 returns c =

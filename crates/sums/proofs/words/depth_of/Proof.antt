@@ -1,5 +1,5 @@
 -- Word 0 has depth 0 by definition, and any other word is a node's.
-use mathlib.Core.Path.{_≡_, sym, ap, _∙_}
+use mathlib.Core.Path.{sym, ap, _∙_}
 use native.Mathlib.Omega.{arith}
 use borrow.Author.Needs.{needs}
 use Rattle.nodes.specs.Depth.{depthOf}

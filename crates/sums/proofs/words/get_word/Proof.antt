@@ -1,11 +1,10 @@
 -- The place that the code computes is where the word starts, and what it reads there is the field that a word is.
-use mathlib.Core.Path.{_≡_, ap₂, _∙_}
-use Prim.Native.Nat.{ℕ}
+use mathlib.Core.Path.{ap₂, _∙_}
 use native.Mathlib.Omega.{arith}
 use lib.ListN.{length}
 use borrow.Author.Needs.{needs}
 use Rattle.bits.specs.Bits.{field}
-use Rattle.sums.specs.Words.{width, word}
+use Rattle.sums.specs.Words.{word}
 use Rattle.sums.proofs.Rooms.{bounds, Placed, placed}
 use Rattle.sums.proofs.words.get_word.Statement.{statement}
 use Rattle.sums.proofs.words.get_word.Tie as tie

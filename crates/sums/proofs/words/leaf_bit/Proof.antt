@@ -1,5 +1,5 @@
 -- The leaf bits start at bit 3 * 2 ^ D, which the code reaches by a shift that loses nothing.
-use mathlib.Core.Path.{_≡_, ap, _∙_}
+use mathlib.Core.Path.{ap, _∙_}
 use native.Mathlib.Omega.{arith}
 use borrow.Author.Needs.{needs}
 use Rattle.bits.specs.Bits.{bit}

@@ -1,5 +1,5 @@
 -- The place that the code computes is where the word starts, and what it writes there is the field that a word is.
-use mathlib.Core.Path.{_≡_, ap, ap₂, _∙_, subst⁻¹}
+use mathlib.Core.Path.{ap, ap₂, _∙_, subst⁻¹}
 use Prim.Native.Nat.{ℕ, _^_, _<_}
 use native.Mathlib.Omega.{arith}
 use lib.ListN.{length}

@@ -1,0 +1,26 @@
+-- What `known` says is the table's one row.
+use mathlib.Core.Path.{refl}
+use borrow.Author.Tests.{not-true, not-false}
+use Rattle.nodes.proofs.Outcomes.{no-such-node, known-node}
+use borrow.Author.Needs.{needs}
+use Rattle.nodes.proofs.triangles.corners.Statement.{statement}
+use Rattle.nodes.proofs.triangles.corners.Tie as tie
+
+known-requires : tie.Need-known-requires
+known-requires c κs = search needs
+
+number-requires : tie.Need-number-requires
+number-requires c κs = search needs
+
+returns : tie.Need-returns
+returns c = rw (c .number .ensures) (no-such-node (c .before .before .known .ensures .no (not-true _ (c .before .if1 .taken))) refl)
+
+corners-of-requires : tie.Need-corners-of-requires
+corners-of-requires c κs = c .before .known .ensures .yes (not-false _ (c .if1 .left)) .low
+
+returns-2 : tie.Need-returns-2
+returns-2 c = known-node (c .before .before .known .ensures .yes (not-false _ (c .before .if1 .left))) (c .corners-of .ensures)
+
+pub corners-spec : {M : Type 1} → statement M
+corners-spec =
+    tie.close (tie.spec known-requires number-requires returns corners-of-requires returns-2)

@@ -1,0 +1,35 @@
+-- The tests are those of `Fits`, one by one.
+use mathlib.Core.Path.{sym, _∙_}
+use native.Mathlib.Omega.{arith}
+use lib.ListN.{length}
+use borrow.Author.Needs.{needs}
+use borrow.Author.Tests.{eqb-true, eqb-false}
+use Prim.Native.Nat.{_-_}
+use Rattle.bits.proofs.Laws.{one-shl}
+use Rattle.nodes.proofs.Tables.{says-no}
+use Rattle.panel.proofs.opening.fits.Statement.{statement}
+use Rattle.panel.proofs.opening.fits.Tie as tie
+
+returns : tie.Need-returns
+returns c = says-no (λ f. omega (arith, f .low))
+
+returns-2 : tie.Need-returns-2
+returns-2 c = says-no (λ f. omega (arith, f .high))
+
+sub-result : tie.Need-sub-result
+sub-result c = search needs
+
+shl-result : tie.Need-shl-result
+shl-result c = search needs
+
+returns-3 : tie.Need-returns-3
+returns-3 c =
+    let a = c .before .before .args in
+    let e = one-shl (a .depth - 1) 64 (omega arith) in
+    record {
+      yes = λ t. record { low = omega arith; high = omega arith; long = eqb-true (length (a .panel .now)) _ t ∙ e };
+      no = λ t f. eqb-false (length (a .panel .now)) _ t (f .long ∙ sym e);
+    }
+
+pub fits-spec : {M : Type 1} → statement M
+fits-spec = tie.close (tie.spec returns returns-2 sub-result shl-result returns-3)
