@@ -4,3 +4,4 @@ pub mod Calls
 pub mod Judging
 pub mod Opening
 pub mod Changing
+pub mod Descents
