@@ -6,7 +6,7 @@ use Prim.Native.Nat.{ℕ, suc, _/_, _≤_, _<_}
 use native.Mathlib.Decide.{decLt}
 use native.Mathlib.Omega.{arith}
 use lib.ListN.{length}
-use lib.Pow.{pow-mono, pow-pos}
+use lib.Pow.{pow-pos}
 use Rattle.nodes.specs.Depth.{depthOf}
 use Rattle.nodes.specs.Neighbours.{edge}
 use Rattle.nodes.proofs.Depths.{At, at-depth, at-parent, depth-is, depth-half, below-depth}
@@ -28,6 +28,7 @@ use Rattle.panel.proofs.ForcedChain.{Chain, chain-start, chain-root, ch
 use Rattle.panel.proofs.TakingBack.{Mergeable, kept-good, mergeable-parent, mergeable-sibling}
 use Rattle.panel.proofs.OneBit.{OneBit, cut-same, add-iff, drop-iff}
 use Rattle.panel.proofs.SameBytes.{cut-of, deep-same}
+use Rattle.panel.proofs.ToMerge.{parent-low}
 
 -- on the way to k's cut, node m is next
 pub record Splitting (s : List ℕ) (k : ℕ) (bs : List ℕ) (m : ℕ) : Type 0 where
@@ -182,10 +183,7 @@ module _ {s : List ℕ} (G : Good s) where
 
   -- the leaves that a merge of k needs are those of its parent
   pub together-mergeable : {k : ℕ} → LeafOf s k → 1 < depthOf k → Together s k → Mergeable (CutOf s) (k / 2)
-  together-mergeable {k} l d t = mergeable-parent (CutOf s) k (deep-parent (l .low)) l (t .beside) (t .across)
-    where
-      deep-parent : 2 ≤ k → 2 ≤ k / 2
-      deep-parent h = omega (arith, pow-mono {i = 2} {j = depthOf k} d, at-depth {n = k} (omega arith))
+  together-mergeable {k} l d t = mergeable-parent (CutOf s) k (parent-low (l .low) d) l (t .beside) (t .across)
 
   pub mergeable-together : {k : ℕ} → Mergeable (CutOf s) (k / 2) → Together s k
   mergeable-together {k} m = record { beside = mergeable-sibling (CutOf s) k m; across = m .other }

@@ -3,4 +3,4 @@ pub mod judging; // the depth of a length, cuts, and the call `judge`
 pub mod opening; // the call `open`
 pub mod cutting; // cutting and taking back cuts in a judged panel
 pub mod descending; // from node 1 down to a leaf
-pub mod judged; // reading a panel that was judged good
+pub mod judged; // reading and changing a panel that was judged good
