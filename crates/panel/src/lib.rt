@@ -3,3 +3,9 @@ pub mod judging; // the depth of a length, cuts, and the call `judge`
 pub mod opening; // the call `open`
 pub mod descending; // from node 1 down to a leaf
 pub mod judged; // reading a panel that was judged good
+pub mod reading; // the calls `count`, `leaf_at`, `number_of` and `leaf_bits`
+
+pub use reading::count;
+pub use reading::leaf_at;
+pub use reading::leaf_bits;
+pub use reading::number_of;
