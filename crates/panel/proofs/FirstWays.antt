@@ -10,8 +10,7 @@ use Rattle.nodes.specs.Table.{Says}
 use Rattle.nodes.specs.declared.numbers.Node.{Node}
 use Rattle.nodes.proofs.Depths.{At, at-below, at-depth, depth-le}
 use Rattle.panel.specs.declared.descending.Aim.the-variants.{Below}
-use Rattle.panel.specs.Cuts.{OneLeaf}
-use Rattle.panel.specs.Panels.{deepOf, CutOf, Good, InRange, LeafOf}
+use Rattle.panel.specs.Panels.{deepOf, Good, InRange, LeafOf}
 use Rattle.panel.specs.Descents.{Askable, Stopped, OnFirstWay, Ranged}
 use Rattle.panel.proofs.CutBits.{first, at-first, ancestor-first}
 use Rattle.panel.proofs.Covering.{ancestor-is}
