@@ -61,7 +61,7 @@ struct Arguments {
 }
 
 fn arguments() -> Option<Arguments> {
-    let mut found = Arguments { seed: 1, cases: 200 };
+    let mut found = Arguments { seed: 1, cases: 400 };
     let mut words = std::env::args().skip(1);
     while let Some(word) = words.next() {
         match word.as_str() {
