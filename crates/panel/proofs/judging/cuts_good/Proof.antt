@@ -1,11 +1,12 @@
 -- The loop's invariant: each place passed that is set names a node that may be cut. So at the end every cut node may be.
-use mathlib.Core.Path.{_≡_, sym, _∙_, subst}
+use mathlib.Core.Path.{_≡_, refl, sym, ap, _∙_, subst}
 use mathlib.Core.Logic.{⊎-elim}
 use Prim.Native.Nat.{ℕ, _+_, _-_, _*_, _%_, _^_, _≤_, _<_}
 use native.Mathlib.Omega.{arith}
 use lib.Pow.{pow-mono, pow-pos}
 use borrow.Author.Count.{below-more}
 use Rattle.bits.proofs.Laws.{one-shl}
+use Rattle.nodes.specs.Depth.{depthOf}
 use Rattle.nodes.specs.Table.{Says}
 use Rattle.nodes.proofs.Depths.{pow-next}
 use Rattle.nodes.proofs.Tables.{says-yes, says-no}
@@ -13,7 +14,7 @@ use Rattle.sums.specs.Words.{leafBit}
 use Rattle.panel.specs.Cuts.{Cut, named}
 use Rattle.panel.specs.Judging.{Follows}
 use Rattle.panel.proofs.Following.{good-follows, follows-good, place-cut}
-use Rattle.panel.proofs.Naming.{found}
+use Rattle.panel.proofs.Naming.{Found, found}
 use Rattle.panel.proofs.judging.cuts_good.Statement.{statement}
 use Rattle.panel.proofs.judging.cuts_good.Tie as tie
 
@@ -43,15 +44,24 @@ bound c = one-shl (c .before .before .before .before .args .deep) 64 (omega arit
 leaf-bit-requires : tie.Need-leaf-bit-requires Inv-loop μ-loop
 leaf-bit-requires c κs = (c .before .before .before .before .before .pre, omega (arith, bound (c .before)))
 
+-- the node that the place names
+here : (c : tie.Then2 Inv-loop μ-loop) → Found (c .before .before .before .before .before .before .before .args .deep) (c .before .before .before .loop .p)
+here c = found (c .before .before .before .before .before .before .before .args .deep) (c .before .before .before .loop .p) (omega arith) (omega arith) (omega (arith, bound (c .before .before .before)))
+
+cast-t : tie.Need-cast-t Inv-loop μ-loop
+cast-t c = omega (arith, bound (c .before .before .before), pow-mono {i = c .before .before .before .before .before .before .before .args .deep} {j = 17} (omega arith))
+
 named-node-requires : tie.Need-named-node-requires Inv-loop μ-loop
-named-node-requires c κs = omega (arith, bound (c .before .before .before))
+named-node-requires c κs = (omega arith, omega arith, omega (arith, bound (c .before .before .before)), refl)
+
+cast-may-be-cut : tie.Need-cast-may-be-cut Inv-loop μ-loop
+cast-may-be-cut c = omega (arith, here (c .before) .zeros)
 
 may-be-cut-requires : tie.Need-may-be-cut-requires Inv-loop μ-loop
 may-be-cut-requires c κs =
-    let a = c .before .before .before .before .before .before .before .before in
-    let l = c .before .before .before .before .loop in
-    let f = found (a .args .deep) (l .p) (omega arith) (omega arith) (omega (arith, bound (c .before .before .before .before))) in
-    (a .pre, omega (arith, f .low), omega (arith, f .high))
+    let e = c .named-node .ensures in
+    let f = here (c .before) in
+    (c .before .before .before .before .before .before .before .before .pre, omega (arith, f .low), omega (arith, f .levels, ap depthOf e))
 
 -- what the test says of the place that the loop stands at
 test : (c : tie.After-may-be-cut Inv-loop μ-loop) → let a = c .before .before .before .before .before .before .before .before .before .args in
@@ -102,7 +112,9 @@ cuts-good-spec =
     loop-holds
     shl-loop
     leaf-bit-requires
+    cast-t
     named-node-requires
+    cast-may-be-cut
     may-be-cut-requires
     returns
     add-p
