@@ -99,8 +99,9 @@ fn cuts_good(panel: &[u8], deep: usize) -> bool
     ensures { λ r. ⌜ Says (GoodCuts (Cut deep (leafBit deep (now (panel .entry))))) r ⌝ }
 {
     if is_cut(panel, deep, Node(1)) {
+        let end = 1usize << deep;
         let mut p: usize = 1;
-        while p < 1usize << deep {
+        while p < end {
             if sums::leaf_bit(panel, deep, p) == 1 {
                 let t = u32::trailing_zeros(p as u32);
                 if may_be_cut(panel, deep, named_node(deep, p, t), t as usize) {} else {

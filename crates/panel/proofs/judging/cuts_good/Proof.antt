@@ -19,23 +19,23 @@ use Rattle.panel.proofs.judging.cuts_good.Statement.{statement}
 use Rattle.panel.proofs.judging.cuts_good.Tie as tie
 
 abbrev Inv-loop : tie.InvT-loop
-Inv-loop panel deep p₀ p =
+Inv-loop panel deep end p₀ p =
     (0 < p) × (p ≤ 2 ^ deep)
     × ((q : ℕ) → q < p → 0 < q → leafBit deep panel q ≡ 1 → Follows (Cut deep (leafBit deep panel)) (named deep q))
 
 abbrev μ-loop : tie.MeasureT-loop
-μ-loop panel deep p₀ p = 2 ^ deep - p
+μ-loop panel deep end p₀ p = 2 ^ deep - p
 
 is-cut-requires : tie.Need-is-cut-requires Inv-loop μ-loop
 is-cut-requires c κs =
     let a = c .before in
     (a .pre, record { low = omega arith; high = omega (arith, pow-next (a .args .deep), pow-pos (a .args .deep)) })
 
+shl-end : tie.Need-shl-end Inv-loop μ-loop
+shl-end c = omega arith
+
 loop-holds : tie.Need-loop-holds Inv-loop μ-loop
 loop-holds c = (omega arith, pow-pos (c .before .before .before .args .deep), λ q h l. absurd (omega arith))
-
-shl-loop : tie.Need-shl-loop Inv-loop μ-loop
-shl-loop c = omega arith
 
 -- the loop's bound
 bound : (c : tie.At-loop Inv-loop μ-loop) → 1 * 2 ^ (c .before .before .before .before .args .deep) % 2 ^ 64 ≡ 2 ^ (c .before .before .before .before .args .deep)
@@ -109,8 +109,8 @@ cuts-good-spec =
     Inv-loop
     μ-loop
     is-cut-requires
+    shl-end
     loop-holds
-    shl-loop
     leaf-bit-requires
     cast-t
     named-node-requires
