@@ -11,15 +11,15 @@ use Rattle.nodes.proofs.Depths.{at-depth}
 use Rattle.sums.specs.Rank.{rank}
 use Rattle.sums.specs.Words.{leafBit}
 use Rattle.sums.proofs.Ranks.{rank-ext}
-use Rattle.panel.specs.Cuts.{Cut, named, Leaf, placeOf}
+use Rattle.cuts.specs.Cuts.{Cut, named, Leaf, placeOf}
 use Rattle.panel.specs.Panels.{deepOf, CutOf, Good, LeafOf, leafCount}
 use Rattle.panel.specs.Calls.{SplitAt}
-use Rattle.panel.proofs.Leaves.{GoodBits}
+use Rattle.cuts.proofs.Leaves.{GoodBits}
 use Rattle.panel.proofs.GoodPanels.{good-bits, word-count}
 use Rattle.panel.proofs.SameBytes.{deep-same, cut-of, dec-cuts}
-use Rattle.panel.proofs.Following.{place-cut}
-use Rattle.panel.proofs.OneBit.{named-place, named-set}
-use Rattle.panel.proofs.ForcedCuts.{Added, first-added, forcedList, few, listed, smallest-iff-added}
+use Rattle.cuts.proofs.Following.{place-cut}
+use Rattle.cuts.proofs.OneBit.{named-place, named-set}
+use Rattle.cuts.proofs.ForcedCuts.{Added, first-added, forcedList, few, listed, smallest-iff-added}
 
 -- ---- counts when bits change
 

@@ -12,9 +12,9 @@ use Rattle.bits.proofs.Laws.{one-shl}
 use Rattle.nodes.specs.Depth.{depthOf}
 use Rattle.nodes.specs.Table.{Says}
 use Rattle.nodes.proofs.Depths.{at-depth, depth-is}
-use Rattle.panel.specs.Cuts.{Cut, named}
-use Rattle.panel.specs.Judging.{CutPlace}
-use Rattle.panel.proofs.Places.{cutPlace, cut-place, place-name, names-zeros, names-named, named-once}
+use Rattle.cuts.specs.Cuts.{Cut, named}
+use Rattle.cuts.specs.Steps.{CutPlace}
+use Rattle.cuts.proofs.Places.{cutPlace, cut-place, place-name, names-zeros, names-named, named-once}
 
 -- the code's shifts lose nothing
 pub record Placed (D n j : ℕ) : Type 0 where

@@ -5,7 +5,7 @@ use mathlib.Core.List.{List, [], _∷_}
 use Prim.Native.Nat.{ℕ, _<_}
 use Rattle.nodes.specs.Table.{unless}
 use Rattle.nodes.proofs.Tables.{is-done}
-use Rattle.panel.specs.Cuts.{placeOf}
+use Rattle.cuts.specs.Cuts.{placeOf}
 use Rattle.panel.specs.Panels.{deepOf, Good, LeafOf, numberIn, leafCount}
 use Rattle.panel.specs.Calls.{LeafNumbered, LeafAt, NumberOf}
 use Rattle.panel.proofs.GoodPanels.{leaf-in-range, number-lt, number-leaf, number-once, number-order}

@@ -10,7 +10,7 @@ use Rattle.nodes.specs.Depth.{depthOf}
 use Rattle.nodes.specs.Neighbours.{edge}
 use Rattle.nodes.specs.Table.{Row, unless, Outcome}
 use Rattle.nodes.proofs.Tables.{answers-one, is-done}
-use Rattle.panel.specs.Cuts.{CoverOnce}
+use Rattle.cuts.specs.Cuts.{CoverOnce}
 use Rattle.panel.specs.Panels.{deepOf, CutOf, Good, LeafOf, leafCount}
 use Rattle.panel.specs.Calls.{leafRows, Open, SplitAt, Split, Together, MergeAt, Merge}
 use Rattle.panel.proofs.GoodPanels.{covers, leaf-in-range}

@@ -14,9 +14,9 @@ use Rattle.nodes.proofs.Edges.{edge-depth}
 use Rattle.sums.specs.Words.{leafBit}
 use Rattle.panel.specs.Panels.{deepOf, CutOf, Good, LeafOf}
 use Rattle.panel.specs.Calls.{SplitAt, Together, MergeAt}
-use Rattle.panel.proofs.Places.{cut-low}
-use Rattle.panel.proofs.ForcedCuts.{smallest-of}
-use Rattle.panel.proofs.TakingBack.{Kept, Mergeable, smallest-kept, split-mergeable, split-back, back-leaf}
+use Rattle.cuts.proofs.Places.{cut-low}
+use Rattle.cuts.proofs.ForcedCuts.{smallest-of}
+use Rattle.cuts.proofs.TakingBack.{Kept, Mergeable, smallest-kept, split-mergeable, split-back, back-leaf}
 use Rattle.panel.proofs.SameBytes.{dec-cuts, deep-same, bytes-same}
 use Rattle.panel.proofs.AtWork.{merging-deep, together-mergeable, mergeable-together}
 

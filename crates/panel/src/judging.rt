@@ -9,9 +9,10 @@ ghost use Rattle.nodes.specs.Depth.{depthOf};
 ghost use Rattle.nodes.specs.Refusals.{answerNumber};
 ghost use Rattle.nodes.specs.Table.{Says};
 ghost use Rattle.sums.specs.Words.{leafBit, Room};
-ghost use Rattle.panel.specs.Cuts.{Cut, GoodCuts, named};
+ghost use Rattle.cuts.specs.Cuts.{Cut, GoodCuts, named};
 ghost use Rattle.panel.specs.Calls.{Judged};
-ghost use Rattle.panel.specs.Judging.{CutPlace, Deep, Follows, NodeOf};
+ghost use Rattle.cuts.specs.Steps.{CutPlace, Follows, NodeOf};
+ghost use Rattle.panel.specs.Judging.{Deep};
 
 // The depth of the panel by its length, or 0 where the length is wrong.
 pub fn depth_of(panel: &[u8]) -> usize

@@ -11,9 +11,9 @@ use Rattle.nodes.specs.Table.{Says}
 use Rattle.nodes.proofs.Depths.{pow-next}
 use Rattle.nodes.proofs.Tables.{says-yes, says-no}
 use Rattle.sums.specs.Words.{leafBit}
-use Rattle.panel.specs.Cuts.{Cut, named}
-use Rattle.panel.specs.Judging.{Follows}
-use Rattle.panel.proofs.Following.{good-follows, follows-good, place-cut}
+use Rattle.cuts.specs.Cuts.{Cut, named}
+use Rattle.cuts.specs.Steps.{Follows}
+use Rattle.cuts.proofs.Following.{good-follows, follows-good, place-cut}
 use Rattle.panel.proofs.Naming.{Found, found}
 use Rattle.panel.proofs.judging.cuts_good.Statement.{statement}
 use Rattle.panel.proofs.judging.cuts_good.Tie as tie

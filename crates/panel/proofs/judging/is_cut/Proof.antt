@@ -3,7 +3,7 @@ use native.Mathlib.Omega.{arith}
 use borrow.Author.Needs.{needs}
 use Rattle.nodes.proofs.Depths.{depth-le}
 use Rattle.nodes.proofs.Tables.{says-no}
-use Rattle.panel.proofs.Places.{cut-depth}
+use Rattle.cuts.proofs.Places.{cut-depth}
 use Rattle.panel.proofs.judging.is_cut.Statement.{statement}
 use Rattle.panel.proofs.judging.is_cut.Tie as tie
 

@@ -11,8 +11,8 @@ use Rattle.nodes.proofs.Depths.{below-depth, depth-half}
 use Rattle.nodes.proofs.Edges.{edge-depth}
 use Rattle.nodes.proofs.Tables.{says-yes, says-no}
 use Rattle.sums.specs.Words.{leafBit}
-use Rattle.panel.specs.Cuts.{Cut}
-use Rattle.panel.proofs.Following.{first-follows, border-follows, says-follows}
+use Rattle.cuts.specs.Cuts.{Cut}
+use Rattle.cuts.proofs.Following.{first-follows, border-follows, says-follows}
 use Rattle.panel.proofs.judging.may_be_cut.Statement.{statement}
 use Rattle.panel.proofs.judging.may_be_cut.Tie as tie
 

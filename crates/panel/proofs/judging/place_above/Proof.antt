@@ -3,7 +3,7 @@ use mathlib.Core.Path.{ap₂, subst⁻¹}
 use Prim.Native.Nat.{_-_}
 use native.Mathlib.Omega.{arith}
 use borrow.Author.Needs.{needs}
-use Rattle.panel.specs.Judging.{CutPlace}
+use Rattle.cuts.specs.Steps.{CutPlace}
 use Rattle.panel.proofs.Naming.{Placed, placed}
 use Rattle.panel.proofs.judging.place_above.Statement.{statement}
 use Rattle.panel.proofs.judging.place_above.Tie as tie

@@ -8,8 +8,8 @@ use Rattle.nodes.specs.Depth.{depthOf}
 use Rattle.nodes.specs.Neighbours.{edge}
 use Rattle.nodes.proofs.Depths.{At, at-parent, at-depth, depth-is}
 use Rattle.nodes.proofs.Edges.{edge-level}
-use Rattle.panel.specs.Cuts.{GoodCuts, Smallest, Leaf}
-use Rattle.panel.proofs.ForcedCuts.{Forced, Added, already, next, smallest-added, smallest-iff}
+use Rattle.cuts.specs.Cuts.{GoodCuts, Smallest, Leaf}
+use Rattle.cuts.proofs.ForcedCuts.{Forced, Added, already, next, smallest-added, smallest-iff}
 
 -- from the good cuts P, on the way to k's cut, the cuts C are made, and node m of depth d is next
 pub record Chain (P : ℕ → Type 0) (k : ℕ) (C : ℕ → Type 0) (d m : ℕ) : Type 0 where

@@ -6,10 +6,10 @@ use native.Mathlib.Decide.{ℕ-discrete}
 use native.Mathlib.Omega.{arith}
 use Rattle.nodes.specs.Depth.{depthOf}
 use Rattle.nodes.proofs.Depths.{at-depth, depth-right}
-use Rattle.panel.specs.Cuts.{Cut, named, placeOf}
-use Rattle.panel.specs.Judging.{CutPlace}
-use Rattle.panel.proofs.Places.{cutPlace, cut-place, cut-low, cut-depth, names-named, named-once}
-use Rattle.panel.proofs.Following.{place-cut}
+use Rattle.cuts.specs.Cuts.{Cut, named, placeOf}
+use Rattle.cuts.specs.Steps.{CutPlace}
+use Rattle.cuts.proofs.Places.{cutPlace, cut-place, cut-low, cut-depth, names-named, named-once}
+use Rattle.cuts.proofs.Following.{place-cut}
 
 -- g is f with the bit at place p set to v
 pub record OneBit (D : ℕ) (f g : ℕ → ℕ) (p v : ℕ) : Type 0 where

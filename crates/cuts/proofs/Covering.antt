@@ -6,7 +6,7 @@ use native.Mathlib.Decide.{decLt, le-ind}
 use native.Mathlib.Omega.{arith}
 use lib.Pow.{pow-pos}
 use Rattle.nodes.proofs.Depths.{At, at-ancestor, ancestor}
-use Rattle.panel.specs.Cuts.{Leaf}
+use Rattle.cuts.specs.Cuts.{Leaf}
 
 -- the ancestor j levels up, as a number
 pub ancestor-is : (j n : ℕ) → ancestor j n ≡ n / 2 ^ j

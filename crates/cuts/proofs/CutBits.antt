@@ -8,8 +8,8 @@ use native.Mathlib.Omega.{arith}
 use lib.Pow.{pow-pos}
 use Rattle.nodes.specs.Depth.{depthOf}
 use Rattle.nodes.proofs.Depths.{At, at-parent, at-ancestor, ancestor, depth-is}
-use Rattle.panel.specs.Cuts.{Leaf}
-use Rattle.panel.proofs.Covering.{Tree, cover}
+use Rattle.cuts.specs.Cuts.{Leaf}
+use Rattle.cuts.proofs.Covering.{Tree, cover}
 
 -- the leftmost node of depth D below n, which stands j levels above depth D
 abbrev pub first : ℕ → ℕ → ℕ

@@ -9,9 +9,9 @@ use Rattle.nodes.specs.Depth.{depthOf}
 use Rattle.nodes.specs.Neighbours.{edge}
 use Rattle.nodes.proofs.Depths.{At, at-parent, at-child, depth-is, depth-half}
 use Rattle.nodes.proofs.Edges.{edge-root, edge-low, edge-mutual, edge-level}
-use Rattle.panel.specs.Cuts.{GoodCuts, Smallest, Leaf}
-use Rattle.panel.specs.Calls.{sibling}
-use Rattle.panel.proofs.ForcedCuts.{Forced, Added, already, forced-at, smallest-iff-added}
+use Rattle.cuts.specs.Cuts.{GoodCuts, Smallest, Leaf}
+use Rattle.cuts.specs.Cuts.{sibling}
+use Rattle.cuts.proofs.ForcedCuts.{Forced, Added, already, forced-at, smallest-iff-added}
 
 -- ---- merge
 

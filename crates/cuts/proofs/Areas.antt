@@ -6,13 +6,13 @@ use native.Mathlib.Omega.{arith}
 use Rattle.nodes.specs.Depth.{depthOf}
 use Rattle.nodes.proofs.Depths.{At, at-left, at-right, at-root, depth-is}
 use Rattle.sums.specs.Rank.{rank}
-use Rattle.panel.specs.Cuts.{Cut, Leaf, leafNumber}
-use Rattle.panel.proofs.NodeSums.{sum}
-use Rattle.panel.proofs.Places.{byNode, dec-cut}
-use Rattle.panel.proofs.Leaves.{GoodBits}
-use Rattle.panel.proofs.Numbering.{number-once}
-use Rattle.panel.proofs.Ranks.{sum-count, number-root, number-left, number-right}
-use Rattle.panel.proofs.Descent.{Reached, reached-root, reached-left, reached-right, reached-leaf, leaf-sum, bottom-uncut}
+use Rattle.cuts.specs.Cuts.{Cut, Leaf, leafNumber}
+use Rattle.cuts.proofs.NodeSums.{sum}
+use Rattle.cuts.proofs.Places.{byNode, dec-cut}
+use Rattle.cuts.proofs.Leaves.{GoodBits}
+use Rattle.cuts.proofs.Numbering.{number-once}
+use Rattle.cuts.proofs.Ranks.{sum-count, number-root, number-left, number-right}
+use Rattle.cuts.proofs.Descent.{Reached, reached-root, reached-left, reached-right, reached-leaf, leaf-sum, bottom-uncut}
 
 -- h 0 + h 1 + .. , c of them
 unfoldable pub total : (ℕ → ℕ) → ℕ → ℕ

@@ -5,9 +5,9 @@ use Prim.Native.Nat.{ℕ, _-_, _^_, _<_}
 use native.Mathlib.Decide.{decLt}
 use native.Mathlib.Omega.{arith}
 use Rattle.sums.specs.Rank.{rank}
-use Rattle.panel.specs.Cuts.{Cut, Leaf, placeOf, leafNumber}
-use Rattle.panel.proofs.Leaves.{GoodBits, leaf-place, leaf-set, set-leaf, place-once}
-use Rattle.panel.proofs.Ranks.{rank-mono, rank-lt, select}
+use Rattle.cuts.specs.Cuts.{Cut, Leaf, placeOf, leafNumber}
+use Rattle.cuts.proofs.Leaves.{GoodBits, leaf-place, leaf-set, set-leaf, place-once}
+use Rattle.cuts.proofs.Ranks.{rank-mono, rank-lt, select}
 
 module _ (D : ℕ) (f : ℕ → ℕ) (G : GoodBits D f) where
   -- a leaf's number is below the count

@@ -9,8 +9,8 @@ use lib.Pow.{pow-pos, pow-mono, pow-add}
 use lib.Count.{trailingZeros, under}
 use Rattle.nodes.specs.Depth.{depthOf}
 use Rattle.nodes.proofs.Depths.{At, at-left, at-right, at-depth, depth-is}
-use Rattle.panel.specs.Cuts.{named, Cut}
-use Rattle.panel.proofs.CutBits.{first, CutBit, first-suc, first-right, at-first, bit-names, dec-cut-bit, cut-in, cut-out, cut-bit-depth}
+use Rattle.cuts.specs.Cuts.{named, Cut}
+use Rattle.cuts.proofs.CutBits.{first, CutBit, first-suc, first-right, at-first, bit-names, dec-cut-bit, cut-in, cut-out, cut-bit-depth}
 
 -- the bit of the depth-D node N, at place N - 2 ^ D
 abbrev pub byNode : ℕ → (ℕ → ℕ) → ℕ → ℕ

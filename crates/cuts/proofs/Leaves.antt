@@ -5,11 +5,11 @@ use Prim.Native.Nat.{ℕ, zero, suc, _+_, _-_, _*_, _/_, _^_, _≤_, _<_}
 use native.Mathlib.Omega.{arith}
 use Rattle.nodes.specs.Depth.{depthOf}
 use Rattle.nodes.proofs.Depths.{At, ancestor, at-from, at-depth, at-ancestor, depth-is, depth-half, below-depth}
-use Rattle.panel.specs.Cuts.{Cut, GoodCuts, Leaf, CoverOnce, placeOf}
-use Rattle.panel.proofs.Covering.{Tree, ancestor-is, cover}
-use Rattle.panel.proofs.CutBits.{first, CutBit, at-first}
-use Rattle.panel.proofs.CutBits as by-node
-use Rattle.panel.proofs.Places.{byNode, cut-depth, cut-bit, dec-cut}
+use Rattle.cuts.specs.Cuts.{Cut, GoodCuts, Leaf, CoverOnce, placeOf}
+use Rattle.cuts.proofs.Covering.{Tree, ancestor-is, cover}
+use Rattle.cuts.proofs.CutBits.{first, CutBit, at-first}
+use Rattle.cuts.proofs.CutBits as by-node
+use Rattle.cuts.proofs.Places.{byNode, cut-depth, cut-bit, dec-cut}
 
 -- the leaf bits of a good panel of depth D
 pub record GoodBits (D : ℕ) (f : ℕ → ℕ) : Type 0 where

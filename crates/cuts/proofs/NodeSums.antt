@@ -6,8 +6,8 @@ use native.Mathlib.Decide.{ℕ-discrete}
 use native.Mathlib.Omega.{arith}
 use lib.Pow.{pow-pos}
 use Rattle.nodes.proofs.Depths.{At}
-use Rattle.panel.specs.Cuts.{Leaf}
-use Rattle.panel.proofs.CutBits.{first, CutBit, first-left, cut-in, cut-out, dec-cut-bit, first-set, leaf-set}
+use Rattle.cuts.specs.Cuts.{Leaf}
+use Rattle.cuts.proofs.CutBits.{first, CutBit, first-left, cut-in, cut-out, dec-cut-bit, first-set, leaf-set}
 
 -- how many leaf bits are set below n, which stands j levels above depth D
 unfoldable pub sum : (ℕ → ℕ) → ℕ → ℕ → ℕ

@@ -6,10 +6,10 @@ use native.Mathlib.Omega.{arith}
 use Rattle.nodes.specs.Depth.{depthOf}
 use Rattle.nodes.proofs.Depths.{At, at-left, at-right, at-root, depth-is}
 use Rattle.sums.specs.Rank.{rank}
-use Rattle.panel.specs.Cuts.{leafNumber}
-use Rattle.panel.proofs.CutBits.{first, first-left, first-right, at-first}
-use Rattle.panel.proofs.NodeSums.{sum}
-use Rattle.panel.proofs.Places.{byNode}
+use Rattle.cuts.specs.Cuts.{leafNumber}
+use Rattle.cuts.proofs.CutBits.{first, first-left, first-right, at-first}
+use Rattle.cuts.proofs.NodeSums.{sum}
+use Rattle.cuts.proofs.Places.{byNode}
 
 -- ranks grow ..
 pub rank-mono : (f : ℕ → ℕ) (p q : ℕ) → p ≤ q → rank f p ≤ rank f q

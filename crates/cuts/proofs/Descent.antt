@@ -8,13 +8,13 @@ use native.Mathlib.Omega.{arith}
 use lib.Pow.{pow-pos}
 use Rattle.nodes.proofs.Depths.{At, at-left, at-right, at-root, depth-is}
 use Rattle.sums.specs.Rank.{rank}
-use Rattle.panel.specs.Cuts.{Cut, Leaf, leafNumber}
-use Rattle.panel.proofs.NodeSums.{sum}
-use Rattle.panel.proofs.NodeSums as by-node
-use Rattle.panel.proofs.Places.{byNode, cut-depth}
-use Rattle.panel.proofs.Leaves.{GoodBits, same-cuts, start-bit, root-bit, up-bit}
-use Rattle.panel.proofs.Numbering.{number-lt, number-once}
-use Rattle.panel.proofs.Ranks.{sum-count, number-root, number-left, number-right}
+use Rattle.cuts.specs.Cuts.{Cut, Leaf, leafNumber}
+use Rattle.cuts.proofs.NodeSums.{sum}
+use Rattle.cuts.proofs.NodeSums as by-node
+use Rattle.cuts.proofs.Places.{byNode, cut-depth}
+use Rattle.cuts.proofs.Leaves.{GoodBits, same-cuts, start-bit, root-bit, up-bit}
+use Rattle.cuts.proofs.Numbering.{number-lt, number-once}
+use Rattle.cuts.proofs.Ranks.{sum-count, number-root, number-left, number-right}
 
 -- the leaf with i leaves left of it below n, which stands j levels above depth D
 unfoldable pub find : (ℕ → ℕ) → ℕ → ℕ → ℕ → ℕ

@@ -63,3 +63,7 @@ placeOf D k = k * 2 ^ (D - depthOf k) - 2 ^ D
 -- the number of leaf k: how many leaf bits are set left of its own
 abbrev pub leafNumber : ℕ → (ℕ → ℕ) → ℕ → ℕ
 leafNumber D f k = rank f (placeOf D k)
+
+-- the other child of k's parent
+abbrev pub sibling : ℕ → ℕ
+sibling k = 4 * (k / 2) + 1 - k

@@ -12,7 +12,7 @@ use lib.Pow.{pow-pos}
 use Rattle.nodes.specs.Neighbours.{edge}
 use Rattle.nodes.proofs.Depths.{At, at-parent}
 use Rattle.nodes.proofs.Edges.{edge-root, edge-mutual, edge-level, edge-quarter}
-use Rattle.panel.specs.Cuts.{GoodCuts, Smallest}
+use Rattle.cuts.specs.Cuts.{GoodCuts, Smallest}
 
 -- ---- good sets
 
