@@ -1,0 +1,4 @@
+pub mod Saying
+pub mod Testing
+pub mod Calling
+pub mod Known
