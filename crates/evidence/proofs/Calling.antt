@@ -20,7 +20,7 @@ use Rattle.panel.proofs.ForcedCuts.{Forced, Added, forced-at, smallest-added, s
 use Rattle.panel.proofs.Rows.{is-good, behind}
 use Rattle.panel.proofs.SameBytes.{deep-same}
 use Rattle.evidence.specs.Known.{LeavesFrom, Leaves}
-use Rattle.evidence.proofs.Saying.{says-same, says-le, says-lt, imply, says-iff, says-and, says-or, says-imply, says-not, shows-and, upTo, Decided, same-sets, sameList, same-list, Tested, firstNo, answered, left, outcome-shown}
+use Rattle.evidence.proofs.Saying.{says-same, says-le, says-lt, imply, says-iff, says-and, says-or, says-imply, says-not, _and_, upTo, Decided, same-sets, sameList, same-list, Tested, firstNo, answered, byAnswer, outcome-shown}
 use Rattle.evidence.proofs.Testing.{leafIn, says-leaf, forcedIn, says-forced, cutOf, decided, goodPanel, good-shown}
 
 -- ---- leaves by number
@@ -28,15 +28,13 @@ use Rattle.evidence.proofs.Testing.{leafIn, says-leaf, forcedIn, says-f
 -- the leaves from number i on are ks, and there are no more
 unfoldable pub leavesIn : List ℕ → ℕ → List ℕ → Bool
 leavesIn t i [] = eqb i (leafCount t)
-leavesIn t i (k ∷ ks) = ltb i (leafCount t) && (leafIn (cutOf t) k && (eqb (numberIn t k) i && leavesIn t (suc i) ks))
+leavesIn t i (k ∷ ks) = ltb i (leafCount t) && leafIn (cutOf t) k && eqb (numberIn t k) i && leavesIn t (suc i) ks
 
 pub leaves-shown : {t : List ℕ} → Good t → (i : ℕ) (ks : List ℕ) → So (leavesIn t i ks) → LeavesFrom t i ks
 unfolding leavesIn
 leaves-shown {t} G i [] e = is-done (is-good G) (eqb-true i (leafCount t) e)
 leaves-shown {t} G i (k ∷ ks) e =
-    let (h, (l, (n, more))) =
-    shows-and (ltb-true i (leafCount t))
-    (shows-and (says-leaf (decided (G .fits)) k .yes) (shows-and (eqb-true (numberIn t k) i) (leaves-shown G (suc i) ks))) e in
+    let (((h, l), n), more) = (ltb-true i (leafCount t) and says-leaf (decided (G .fits)) k .yes and eqb-true (numberIn t k) i and leaves-shown G (suc i) ks) e in
     (is-done (behind (unless 8 (i < leafCount t) ∷ []) G (inr (h, refl))) (record { leaf = l; number = n }), more)
 
 -- ---- what open leaves
@@ -49,7 +47,7 @@ unfolding freshIn
 fresh-shown {D} {t} G e =
     let d = decided (G .fits) in
     let one : Decided (2 ^ deepOf t) (λ n. n ≡ 1) (λ n. eqb n 1) = record { says = λ n. says-same n 1; high = λ n r. omega (arith, d .high 1 (G .cuts .root)) } in
-    let (deep, cuts) = shows-and (eqb-true (deepOf t) D) (same-sets d one) e in
+    let (deep, cuts) = (eqb-true (deepOf t) D and same-sets d one) e in
     record { good = G; deep = deep; cuts = cuts }
 
 -- ---- what split and merge leave
@@ -60,15 +58,13 @@ as-long s {t} G e = subst (λ D. Decided (2 ^ D) (CutOf t) (cutOf t)) (deep-same
 
 unfoldable pub splitIn : List ℕ → ℕ → List ℕ → Bool
 splitIn s k t =
-    eqb (length t) (length s) && (leafIn (cutOf s) k && (ltb (depthOf k) (deepOf s)
-    && upTo (2 ^ deepOf s) (λ n. Bool·beq (cutOf s n || forcedIn (depthOf k) k n) (cutOf t n))))
+    eqb (length t) (length s) && leafIn (cutOf s) k && ltb (depthOf k) (deepOf s)
+    && upTo (2 ^ deepOf s) (λ n. Bool·beq (cutOf s n || forcedIn (depthOf k) k n) (cutOf t n))
 
 pub split-shown : {s t : List ℕ} (k : ℕ) → Good s → Good t → So (splitIn s k t) → SplitAt s k t
 unfolding splitIn
 split-shown {s} {t} k S T e =
-    let (long, (l, (deep, same))) =
-    shows-and (eqb-true (length t) (length s))
-    (shows-and (says-leaf d k .yes) (shows-and (ltb-true (depthOf k) (deepOf s)) (λ x. x))) e in
+    let (((long, l), deep), same) = (eqb-true (length t) (length s) and says-leaf d k .yes and ltb-true (depthOf k) (deepOf s) and (λ x. x)) e in
     let a : At (depthOf k) k = at-depth (omega (arith, l .low)) in
     record {
       good = T;
@@ -93,17 +89,17 @@ split-shown {s} {t} k S T e =
 unfoldable pub mergeIn : List ℕ → ℕ → List ℕ → Bool
 mergeIn s k t =
     eqb (length t) (length s)
-    && upTo (2 ^ deepOf s) (λ n. Bool·beq (cutOf t n) (cutOf s n && (not (eqb n (k / 2)) && not (eqb n (edge (k / 2))))))
+    && upTo (2 ^ deepOf s) (λ n. Bool·beq (cutOf t n) (cutOf s n && not (eqb n (k / 2)) && not (eqb n (edge (k / 2)))))
 
 pub merge-shown : {s t : List ℕ} (k : ℕ) → Good s → Good t → So (mergeIn s k t) → MergeAt s k t
 unfolding mergeIn
 merge-shown {s} {t} k S T e =
-    let (long, same) = shows-and (eqb-true (length t) (length s)) (λ x. x) e in
+    let (long, same) = (eqb-true (length t) (length s) and (λ x. x)) e in
     record { good = T; long = long; cuts = same-sets (as-long s T long) kept same }
   where
-    kept : Decided (2 ^ deepOf s) (λ n. CutOf s n × (n ≢ k / 2) × (n ≢ edge (k / 2))) (λ n. cutOf s n && (not (eqb n (k / 2)) && not (eqb n (edge (k / 2)))))
+    kept : Decided (2 ^ deepOf s) (λ n. CutOf s n × (n ≢ k / 2) × (n ≢ edge (k / 2))) (λ n. cutOf s n && not (eqb n (k / 2)) && not (eqb n (edge (k / 2))))
     kept = record {
-      says = λ n. says-iff (λ x. (x .0, x .1 .0, x .1 .1)) (λ x. (x .0, (x .1, x .2))) (says-and (decided (S .fits) .says n) (says-and (says-not (says-same n (k / 2))) (says-not (says-same n (edge (k / 2))))));
+      says = λ n. says-iff (λ x. (x .0 .0, x .0 .1, x .1)) (λ x. ((x .0, x .1), x .2)) (says-and (says-and (decided (S .fits) .says n) (says-not (says-same n (k / 2)))) (says-not (says-same n (edge (k / 2)))));
       high = λ n x. decided (S .fits) .high n (x .0);
     }
 
@@ -160,14 +156,13 @@ merge-tested {s} S k = (says-range s k, (says-leaf (decided (S .fits)) k, (says-
 -- from panel s the rows behind the judgement answer n, and leave t with the leaves ks; done tests what is so where n is 0
 unfoldable pub changed : List Row → List Bool → Bool → List ℕ → ℕ → List ℕ → List ℕ → Bool
 changed rows bs done s n t ks =
-    goodPanel s && (goodPanel t && (eqb (firstNo rows bs) n && (left n done (sameList eqb t s) && leavesIn t 0 ks)))
+    goodPanel s && goodPanel t && eqb (firstNo rows bs) n && byAnswer n done (sameList eqb t s) && leavesIn t 0 ks
 
 pub changed-shown : (rows : List Row) (bs : List Bool) {done : Bool} {s : List ℕ} (n : ℕ) {t : List ℕ} (ks : List ℕ) {Done : List ℕ → Type 0}
     → (Good s → Tested rows bs) → (Good s → Good t → So done → Done t)
     → So (changed rows bs done s n t ks) → Outcome (panelRows s ++ rows) (List ℕ) Done (λ x. x ≡ s) n t × Leaves t ks
 unfolding changed
 changed-shown rows bs {s = s} n {t} ks tested shown e =
-    let (S, (T, x)) = shows-and (good-shown s) (shows-and (good-shown t) (λ x. x)) e in
-    let a = answered rows bs (tested S) in
-    let (r, y) = shows-and (eqb-true (firstNo rows bs) n) (λ x. x) x in
-    shows-and (outcome-shown n (behind rows S (subst (Answers rows) r a)) (shown S T) (same-list eqb-true t s)) (leaves-shown T 0 ks) y
+    let ((((S, T), a), x), y) = (good-shown s and good-shown t and eqb-true (firstNo rows bs) n and (λ x. x) and (λ y. y)) e in
+    let answers = behind rows S (subst (Answers rows) a (answered rows bs (tested S))) in
+    (outcome-shown n answers (shown S T) (same-list eqb-true t s) x, leaves-shown T 0 ks y)

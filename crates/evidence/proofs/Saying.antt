@@ -53,14 +53,15 @@ module _ {P Q : Type 0} where
   alike {a = false} {b = true} p q e = absurd (false≢true e)
   alike {a = false} {b = false} p q e = (λ x. absurd (p .no refl x), λ x. absurd (q .no refl x))
 
-  -- where only the answer yes is asked for
-  pub shows-and : {a b : Bool} → (So a → P) → (So b → Q) → So (a && b) → P × Q
-  shows-and {a = true} p q e = (p refl, q e)
-  shows-and {a = false} p q e = absurd (false≢true e)
-
 pub says-not : {P : Type 0} {a : Bool} → Says P a → Says (P → ⊥) (not a)
 says-not {a = true} p = says-no (λ f. f (p .yes refl))
 says-not {a = false} p = says-yes (p .no refl)
+
+-- where only the answer yes is asked for
+infixl 35 _and_
+pub _and_ : {P Q : Type 0} {a b : Bool} → (So a → P) → (So b → Q) → So (a && b) → P × Q
+_and_ {a = true} p q e = (p refl, q e)
+_and_ {a = false} p q e = absurd (false≢true e)
 
 -- ---- all numbers below m
 
@@ -71,7 +72,7 @@ upTo (suc m) f = f m && upTo m f
 pub shows-all : {P : ℕ → Type 0} {f : ℕ → Bool} (m : ℕ) → ((n : ℕ) → So (f n) → P n) → So (upTo m f) → (n : ℕ) → n < m → P n
 unfolding upTo
 shows-all zero s e n h = absurd (omega arith)
-shows-all {P} (suc m) s e n h = let (p, q) = shows-and (s m) (shows-all m s) e in go p (q n) (ℕ-discrete n m)
+shows-all {P} (suc m) s e n h = let (p, q) = (s m and shows-all m s) e in go p (q n) (ℕ-discrete n m)
   where
     go : P m → (n < m → P n) → Dec (n ≡ m) → P n
     go p q (yes r) = rw r p
@@ -103,7 +104,7 @@ unfolding sameList
 same-list s [] [] e = refl
 same-list s [] (y ∷ ys) e = absurd (false≢true e)
 same-list s (x ∷ xs) [] e = absurd (false≢true e)
-same-list s (x ∷ xs) (y ∷ ys) e = let (p, q) = shows-and (s x y) (same-list s xs ys) e in ap₂ (λ a b. a ∷ b) p q
+same-list s (x ∷ xs) (y ∷ ys) e = let (p, q) = (s x y and same-list s xs ys) e in ap₂ (λ a b. a ∷ b) p q
 
 -- ---- a table of refusals
 
@@ -128,11 +129,11 @@ answered (r ∷ rows) (true ∷ bs) t = inr (t .0 .yes refl, answered rows bs (t
 answered (r ∷ rows) (false ∷ bs) t = inl (t .0 .no refl, refl)
 
 -- the test of what is done, or of what is refused, by the answer
-abbrev pub left : ℕ → Bool → Bool → Bool
-left zero d r = d
-left (suc n) d r = r
+abbrev pub byAnswer : ℕ → Bool → Bool → Bool
+byAnswer zero d r = d
+byAnswer (suc n) d r = r
 
 pub outcome-shown : {rows : List Row} {A : Type 0} {Done Refused : A → Type 0} {x : A} (n : ℕ) {d r : Bool}
-    → Answers rows n → (So d → Done x) → (So r → Refused x) → So (left n d r) → Outcome rows A Done Refused n x
+    → Answers rows n → (So d → Done x) → (So r → Refused x) → So (byAnswer n d r) → Outcome rows A Done Refused n x
 outcome-shown zero a f g e = is-done a (f e)
 outcome-shown (suc n) a f g e = is-refused (omega arith) a (g e)

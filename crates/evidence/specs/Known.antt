@@ -69,6 +69,7 @@ fiveDeeper = 0x90 ∷ 0x32 ∷ 0xA2 ∷ 0x24 ∷ 0x15 ∷ 0x11 ∷ 0x15 ∷ 0x11
 abbrev pub eightDeeper : List ℕ
 eightDeeper = 0x10 ∷ 0x44 ∷ 0xB4 ∷ 0x64 ∷ 0x16 ∷ 0x91 ∷ 0x17 ∷ 0xD1 ∷ []
 
+-- open 3, then split 2, then split 4; all cut; split 8 at D = 4; three merges; neighbours; corners
 abbrev pub knownCases : List Case
 knownCases =
     opens 3 opened (2 ∷ 3 ∷ [])
