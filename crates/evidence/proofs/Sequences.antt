@@ -11,13 +11,13 @@ use Rattle.nodes.specs.Neighbours.{edge}
 use Rattle.nodes.specs.Table.{Row, unless, Outcome}
 use Rattle.nodes.proofs.Tables.{answers-one, is-done}
 use Rattle.cuts.specs.Cuts.{CoverOnce}
 use Rattle.panel.specs.Panels.{deepOf, CutOf, Good, LeafOf, leafCount}
 use Rattle.panel.specs.Calls.{leafRows, Open, SplitAt, Split, Together, MergeAt, Merge}
 use Rattle.panel.proofs.GoodPanels.{covers, leaf-in-range}
 use Rattle.panel.proofs.LeafRows.{is-leaf, leaf-past, row-past}
-use Rattle.panel.proofs.Growth as growth
+use Rattle.evidence.proofs.Growth as growth
 use Rattle.panel.proofs.Once.{split-one}
-use Rattle.panel.proofs.ThereAndBack.{split-leaf, split-deep, split-together, split-merge-back, split-merge-leaf, merge-leaf, merge-deep, merge-split}
+use Rattle.evidence.proofs.ThereAndBack.{split-leaf, split-deep, split-together, split-merge-back, split-merge-leaf, merge-leaf, merge-deep, merge-split}
 
 -- ---- any run of calls
 
