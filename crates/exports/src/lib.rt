@@ -48,7 +48,7 @@ pub extern "C" fn node_corners(
 pub extern "C" fn panel_open(panel: &mut [u8], depth: u32) -> u32
     ensures { λ r. ⌜ Open (now (panel .entry)) depth r (now (panel .exit)) ⌝ }
 {
-    panel::opening::open(panel, depth).number()
+    panel::open(panel, depth).number()
 }
 
 // Whether the panel is good.
@@ -56,7 +56,7 @@ pub extern "C" fn panel_open(panel: &mut [u8], depth: u32) -> u32
 pub extern "C" fn panel_judge(panel: &[u8]) -> u32
     ensures { λ r. ⌜ Judged (now (panel .entry)) r ⌝ }
 {
-    panel::judging::judge(panel).number()
+    panel::judge(panel).number()
 }
 
 // The number of leaves.

@@ -11,4 +11,3 @@ pub mod Tables
 pub mod Mirrors
 pub mod Outcomes
 pub mod Refusing
-pub mod Known

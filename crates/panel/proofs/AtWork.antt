@@ -16,17 +16,17 @@ use Rattle.sums.specs.Sums.{Right, Summed}
 use Rattle.sums.proofs.Rooms.{room-same}
 use Rattle.sums.proofs.Leaves.{length-put-leaf, leaf-put-same, leaf-put-other, bit-put-leaf, word-put-leaf}
 use Rattle.sums.proofs.Unique.{summed-leaf, summed-right}
-use Rattle.panel.specs.Cuts.{Cut, GoodCuts}
+use Rattle.cuts.specs.Cuts.{Cut, GoodCuts}
 use Rattle.panel.specs.Panels.{Fits, deepOf, CutOf, Good, LeafOf}
 use Rattle.panel.specs.Calls.{SplitAt, Together, MergeAt}
-use Rattle.panel.specs.Judging.{NodeOf}
+use Rattle.cuts.specs.Steps.{NodeOf}
 use Rattle.panel.specs.Changing.{CutPut, AtWork, CutIn, SplitBits, MergeBits}
 use Rattle.panel.proofs.Lengths.{fits-room}
-use Rattle.panel.proofs.Places.{cut-low, cut-depth}
-use Rattle.panel.proofs.ForcedCuts.{good-iff, smallest-iff}
-use Rattle.panel.proofs.ForcedChain.{Chain, chain-start, chain-root, chain-cut, chain-last, chain-step, chain-smallest}
-use Rattle.panel.proofs.TakingBack.{Mergeable, kept-good, mergeable-parent, mergeable-sibling}
-use Rattle.panel.proofs.OneBit.{OneBit, cut-same, add-iff, drop-iff}
+use Rattle.cuts.proofs.Places.{cut-low, cut-depth}
+use Rattle.cuts.proofs.ForcedCuts.{good-iff, smallest-iff}
+use Rattle.cuts.proofs.ForcedChain.{Chain, chain-start, chain-root, chain-cut, chain-last, chain-step, chain-smallest}
+use Rattle.cuts.proofs.TakingBack.{Mergeable, kept-good, mergeable-parent, mergeable-sibling}
+use Rattle.cuts.proofs.OneBit.{OneBit, cut-same, add-iff, drop-iff}
 use Rattle.panel.proofs.SameBytes.{cut-of, deep-same}
 use Rattle.panel.proofs.ToMerge.{parent-low}
 

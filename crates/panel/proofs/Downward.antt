@@ -17,9 +17,9 @@ use Rattle.panel.specs.declared.descending.Aim.the-variants.{Number, Bel
 use Rattle.panel.specs.Panels.{deepOf, CutOf, Good, LeafOf, leafCount}
 use Rattle.panel.specs.Descents.{Askable, Meets, Stopped, Spot, Heading, Leftward}
 use Rattle.panel.proofs.Lengths.{fits-bits, fits-room}
-use Rattle.panel.proofs.Places.{cut-depth}
-use Rattle.panel.proofs.Covering.{ancestor-is}
-use Rattle.panel.proofs.Descent.{reached-left, reached-right}
+use Rattle.cuts.proofs.Places.{cut-depth}
+use Rattle.cuts.proofs.Covering.{ancestor-is}
+use Rattle.cuts.proofs.Descent.{reached-left, reached-right}
 use Rattle.panel.proofs.GoodPanels.{good-bits, cut-word, reached-word, leaf-word-one, number-root, number-left, number-right}
 
 -- ---- the aim

@@ -12,8 +12,8 @@ use Rattle.nodes.proofs.Depths.{At, at-below, at-depth, depth-le}
 use Rattle.panel.specs.declared.descending.Aim.the-variants.{Below}
 use Rattle.panel.specs.Panels.{deepOf, Good, InRange, LeafOf}
 use Rattle.panel.specs.Descents.{Askable, Stopped, OnFirstWay, Ranged}
-use Rattle.panel.proofs.CutBits.{first, at-first, ancestor-first}
-use Rattle.panel.proofs.Covering.{ancestor-is}
+use Rattle.cuts.proofs.CutBits.{first, at-first, ancestor-first}
+use Rattle.cuts.proofs.Covering.{ancestor-is}
 use Rattle.panel.proofs.GoodPanels.{covers}
 
 module _ (s : List ℕ) (G : Good s) (k : ℕ) (R : InRange s k) where

@@ -16,12 +16,12 @@ use Rattle.sums.proofs.Rooms.{room-same}
 use Rattle.sums.proofs.Slots.{wide, packed, from-zero, from-one, word-put-same, length-putWord, bit-put-word}
 use Rattle.sums.proofs.Leaves.{length-put-leaf, leaf-put-same, leaf-put-other, bit-put-leaf, word-put-leaf}
 use Rattle.sums.proofs.Unique.{summed-leaf, summed-right}
-use Rattle.panel.specs.Cuts.{named, Cut, GoodCuts}
+use Rattle.cuts.specs.Cuts.{named, Cut, GoodCuts}
 use Rattle.panel.specs.Panels.{Fits, deepOf, CutOf, Good}
 use Rattle.panel.specs.Calls.{Fresh}
-use Rattle.panel.specs.Judging.{CutPlace}
+use Rattle.cuts.specs.Steps.{CutPlace}
 use Rattle.panel.specs.Opening.{Cleared}
-use Rattle.panel.proofs.Places.{cutPlace, cut-place, names-named}
+use Rattle.cuts.proofs.Places.{cutPlace, cut-place, names-named}
 use Rattle.panel.proofs.Lengths.{fits-deep, fits-right, fits-room}
 use Rattle.panel.proofs.Naming.{cut-set}
 

@@ -12,16 +12,16 @@ use Rattle.sums.specs.Rank.{rank}
 use Rattle.sums.specs.Words.{word, leafBit}
 use Rattle.sums.specs.Sums.{SumsRight}
 use Rattle.sums.proofs.Slots.{leaf-word}
-use Rattle.panel.specs.Cuts.{CoverOnce, placeOf}
+use Rattle.cuts.specs.Cuts.{CoverOnce, placeOf}
 use Rattle.panel.specs.Panels.{deepOf, CutOf, Good, InRange, LeafOf, numberIn, leafCount}
 use Rattle.panel.specs.Calls.{LeafNumbered}
-use Rattle.panel.proofs.NodeSums.{sum}
-use Rattle.panel.proofs.Places.{byNode}
-use Rattle.panel.proofs.Leaves.{GoodBits, cover-once, leaf-range}
-use Rattle.panel.proofs.Numbering as numbering
-use Rattle.panel.proofs.Ranks as ranks
-use Rattle.panel.proofs.Descent as descent
-use Rattle.panel.proofs.Areas.{total, shares}
+use Rattle.cuts.proofs.NodeSums.{sum}
+use Rattle.cuts.proofs.Places.{byNode}
+use Rattle.cuts.proofs.Leaves.{GoodBits, cover-once, leaf-range}
+use Rattle.cuts.proofs.Numbering as numbering
+use Rattle.cuts.proofs.Ranks as ranks
+use Rattle.cuts.proofs.Descent as descent
+use Rattle.cuts.proofs.Areas.{total, shares}
 
 pub leaf-bit-small : (D : ℕ) (s : List ℕ) (p : ℕ) → leafBit D s p ≤ 1
 unfolding leafBit

@@ -1,8 +1,7 @@
 -- The leaf bit that names a node, as the code finds it and reads it.
-use mathlib.Core.Path.{_≡_, sym, ap, _∙_, subst}
-use mathlib.Core.Bool.{Bool, true, false}
+use mathlib.Core.Path.{_≡_, sym, ap, _∙_}
 use mathlib.Core.Logic.{_↔_}
-use Prim.Native.Nat.{ℕ, suc, _+_, _-_, _*_, _/_, _%_, _^_, _≤_, _<_}
+use Prim.Native.Nat.{ℕ, _+_, _-_, _*_, _/_, _%_, _^_, _≤_, _<_}
 use native.Mathlib.Nat.{div-le-self, mod-eq-of-lt}
 use native.Mathlib.Omega.{arith}
 use lib.Pow.{pow-mono, pow-pos}
@@ -12,28 +11,28 @@ use borrow.Author.Tests.{eqb-true, eqb-false}
 use Rattle.bits.proofs.Laws.{one-shl}
 use Rattle.nodes.specs.Depth.{depthOf}
 use Rattle.nodes.specs.Table.{Says}
-use Rattle.nodes.proofs.Depths.{at-depth}
-use Rattle.panel.specs.Cuts.{Cut, named}
-use Rattle.panel.specs.Judging.{CutPlace}
-use Rattle.panel.proofs.Places.{cutPlace, cut-place, place-name, names-zeros, names-named, named-once}
+use Rattle.nodes.proofs.Depths.{at-depth, depth-is}
+use Rattle.cuts.specs.Cuts.{Cut, named}
+use Rattle.cuts.specs.Steps.{CutPlace}
+use Rattle.cuts.proofs.Places.{cutPlace, cut-place, place-name, names-zeros, names-named, named-once}
 
 -- the code's shifts lose nothing
-pub record Placed (D n d : ℕ) : Type 0 where
-  pub first : 2 ^ D ≤ (2 * n + 1) * 2 ^ (D - 1 - d)
-  pub shift : (2 * n + 1) * 2 ^ (D - 1 - d) % 2 ^ 64 ≡ (2 * n + 1) * 2 ^ (D - 1 - d)
+pub record Placed (D n j : ℕ) : Type 0 where
+  pub first : 2 ^ D ≤ (2 * n + 1) * 2 ^ j
+  pub shift : (2 * n + 1) * 2 ^ j % 2 ^ 64 ≡ (2 * n + 1) * 2 ^ j
   pub deep : 1 * 2 ^ D % 2 ^ 64 ≡ 2 ^ D
-  pub found : CutPlace D n ((2 * n + 1) * 2 ^ (D - 1 - d) - 2 ^ D)
+  pub found : CutPlace D n ((2 * n + 1) * 2 ^ j - 2 ^ D)
 
-pub placed : (D n d : ℕ) → D ≤ 17 → 1 ≤ n → depthOf n < D → d ≡ depthOf n → Placed D n d
-placed D n d l p h e =
-    let (low, high, m) = cut-place D (depthOf n) (D - 1 - d) n (at-depth p) (omega arith) in
+pub placed : (D n j : ℕ) → D ≤ 17 → 1 ≤ n → depthOf n + 1 + j ≡ D → Placed D n j
+placed D n j l p h =
+    let (low, high, m) = cut-place D (depthOf n) j n (at-depth p) (omega arith) in
     let s = m .place in
     let q : 2 ^ D ≤ 2 ^ 17 = pow-mono l in
     record {
       first = omega (arith, s);
       shift = mod-eq-of-lt (omega (arith, s));
       deep = one-shl D 64 (omega arith);
-      found = record { low = low; high = high; names = names-named D (cutPlace D (D - 1 - d) n) (D - 1 - d) n (omega arith) m };
+      found = record { low = low; high = high; names = names-named D (cutPlace D j n) j n (omega arith) m };
     }
 
 -- n is cut exactly where the bit that names it is set
@@ -54,7 +53,7 @@ pub record Found (D p : ℕ) : Type 0 where
   pub zeros : trailingZeros 32 p < 32
   pub right-child : (2 ^ D + p) / 2 ^ trailingZeros 32 p < 2 ^ 18
   pub low : 1 ≤ named D p
-  pub high : named D p < 2 ^ D
+  pub levels : depthOf (named D p) + 1 + trailingZeros 32 p ≡ D
 
 pub found : (D p : ℕ) → D ≤ 17 → 0 < p → p < 2 ^ D → Found D p
 found D p l a b =
@@ -67,5 +66,5 @@ found D p l a b =
       zeros = omega (arith, x .levels);
       right-child = omega (arith, div-le-self (2 ^ D + p) (2 ^ trailingZeros 32 p));
       low = omega (arith, x .at .low, pow-pos (x .depth));
-      high = omega (arith, x .at .high, pow-mono (let g : suc (x .depth) ≤ D = omega (arith, x .levels) in g));
+      levels = omega (arith, x .levels, ap depthOf e ∙ depth-is (x .at));
     }

@@ -9,7 +9,7 @@ use Rattle.nodes.specs.Table.{Row, unless, Answers, Outcome}
 use Rattle.nodes.proofs.Tables.{answers-one, outcome-one}
 use Rattle.panel.specs.Panels.{Good, leafCount}
 use Rattle.panel.specs.Calls.{panelRows, Judged, Count, LeafBits, LeafNumbered, LeafAt, NumberOf, Fresh, Open, SplitAt, Split, MergeAt, Merge}
-use Rattle.panel.proofs.ForcedCuts.{smallest-one}
+use Rattle.cuts.proofs.ForcedCuts.{smallest-one}
 use Rattle.panel.proofs.GoodPanels.{number-once}
 use Rattle.panel.proofs.SameBytes.{dec-cuts, bytes-same}
 

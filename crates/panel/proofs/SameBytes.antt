@@ -12,12 +12,12 @@ use Rattle.nodes.specs.Depth.{depthOf}
 use Rattle.sums.specs.Words.{leafBit}
 use Rattle.sums.specs.Sums.{Right}
 use Rattle.sums.proofs.Unique.{right-one}
-use Rattle.panel.specs.Cuts.{Cut}
+use Rattle.cuts.specs.Cuts.{Cut}
 use Rattle.panel.specs.Panels.{deepOf, CutOf, Good}
 use Rattle.panel.proofs.Lengths.{fits-bits}
-use Rattle.panel.proofs.Places.{dec-cut}
+use Rattle.cuts.proofs.Places.{dec-cut}
 use Rattle.panel.proofs.GoodPanels.{leaf-bit-small}
-use Rattle.panel.proofs.OneBit.{bits-same}
+use Rattle.cuts.proofs.OneBit.{bits-same}
 
 -- the depth comes from the length
 pub deep-same : (s t : List ℕ) → length t ≡ length s → deepOf t ≡ deepOf s

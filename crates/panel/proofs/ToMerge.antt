@@ -12,7 +12,8 @@ use Rattle.nodes.specs.Table.{Says}
 use Rattle.nodes.proofs.Depths.{pow-next, at-depth, depth-half, depth-left, depth-le, below-depth}
 use Rattle.nodes.proofs.Edges.{edge-depth}
 use Rattle.panel.specs.Panels.{deepOf, RightLength, InRange, LeafOf}
-use Rattle.panel.specs.Calls.{sibling, Together}
+use Rattle.cuts.specs.Cuts.{sibling}
+use Rattle.panel.specs.Calls.{Together}
 
 -- the parent of a node deeper than 1 is not node 1
 pub parent-low : {k : ℕ} → 2 ≤ k → 1 < depthOf k → 2 ≤ k / 2

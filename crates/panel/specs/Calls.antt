@@ -2,12 +2,12 @@
 use mathlib.Core.Path.{_≡_}
 use mathlib.Core.Logic.{_≢_, _⊎_, _↔_}
 use mathlib.Core.List.{List, [], _∷_, _++_}
-use Prim.Native.Nat.{ℕ, _+_, _-_, _*_, _/_, _≤_, _<_}
+use Prim.Native.Nat.{ℕ, _+_, _*_, _/_, _<_}
 use lib.ListN.{length}
 use Rattle.nodes.specs.Depth.{depthOf}
 use Rattle.nodes.specs.Neighbours.{edge}
 use Rattle.nodes.specs.Table.{Row, unless, Answers, Outcome}
-use Rattle.panel.specs.Cuts.{Smallest}
+use Rattle.cuts.specs.Cuts.{Smallest, sibling}
 use Rattle.panel.specs.Panels.{Fits, deepOf, RightLength, CutOf, Good, InRange, LeafOf, numberIn, leafCount, leafPart}
 
 -- ---- calls that read
@@ -61,10 +61,6 @@ pub record SplitAt (s : List ℕ) (k : ℕ) (t : List ℕ) : Type 0 where
 
 abbrev pub Split : List ℕ → ℕ → ℕ → List ℕ → Type 0
 Split s k n t = Outcome (leafRows s k ++ unless 5 (depthOf k < deepOf s) ∷ []) (List ℕ) (SplitAt s k) (λ x. x ≡ s) n t
-
--- the other child of k's parent
-abbrev pub sibling : ℕ → ℕ
-sibling k = 4 * (k / 2) + 1 - k
 
 -- k's sibling and, where the parent's edge neighbour is a node, both that neighbour's children are leaves
 pub record Together (s : List ℕ) (k : ℕ) : Type 0 where

@@ -7,9 +7,9 @@ use lib.ListN.{length}
 use Rattle.bits.specs.Bits.{bit}
 use Rattle.nodes.specs.Neighbours.{edge}
 use Rattle.sums.specs.Words.{word, leafBit, putLeafBit}
-use Rattle.panel.specs.Cuts.{Cut, Smallest}
+use Rattle.cuts.specs.Cuts.{Cut, Smallest}
 use Rattle.panel.specs.Panels.{deepOf, CutOf}
-use Rattle.panel.specs.Judging.{CutPlace}
+use Rattle.cuts.specs.Steps.{CutPlace}
 
 -- ys is xs with the leaf bit that names node n set to v
 pub record CutPut (D : ℕ) (xs : List ℕ) (n v : ℕ) (ys : List ℕ) : Type 0 where

@@ -1,4 +1,3 @@
-pub mod Cuts
 pub mod Panels
 pub mod Calls
 pub mod Judging

@@ -7,7 +7,7 @@ use Rattle.nodes.specs.Depth.{depthOf}
 use Rattle.nodes.specs.Limits.{leastDepth, greatestDepth}
 use Rattle.sums.specs.Words.{word, leafBit}
 use Rattle.sums.specs.Sums.{Right}
-use Rattle.panel.specs.Cuts.{Cut, GoodCuts, Leaf, leafNumber}
+use Rattle.cuts.specs.Cuts.{Cut, GoodCuts, Leaf, leafNumber}
 
 -- a panel of depth D, from 3 to 14, is 2 ^ (D - 1) bytes
 pub record Fits (s : List ℕ) (D : ℕ) : Type 0 where

@@ -53,7 +53,8 @@ pub fn leaf_toward(panel: &[u8], deep: usize, k: Node) -> Stop
     ensures { λ r. ⌜ OnFirstWay (now (panel .entry)) (k .0) (r .node .0) (r .number .0) ⌝ }
 {
     let d = nodes::depth(k) as usize;
-    leaf_by(panel, deep, Aim::Below(Node(k.0 << (deep - d))))
+    let first = k.0 << (deep - d);
+    leaf_by(panel, deep, Aim::Below(Node(first)))
 }
 
 // Whether k is a leaf.

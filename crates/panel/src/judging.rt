@@ -4,13 +4,15 @@ use nodes::Node;
 use nodes::Refusal;
 ghost use mathlib.Core.Path.{_≡_};
 ghost use Prim.Native.Nat.{_+_, _^_, _≤_, _<_};
+ghost use lib.Count.{trailingZeros};
 ghost use Rattle.nodes.specs.Depth.{depthOf};
 ghost use Rattle.nodes.specs.Refusals.{answerNumber};
 ghost use Rattle.nodes.specs.Table.{Says};
 ghost use Rattle.sums.specs.Words.{leafBit, Room};
-ghost use Rattle.panel.specs.Cuts.{Cut, GoodCuts, named};
+ghost use Rattle.cuts.specs.Cuts.{Cut, GoodCuts, named};
 ghost use Rattle.panel.specs.Calls.{Judged};
-ghost use Rattle.panel.specs.Judging.{CutPlace, Deep, Follows, NodeOf};
+ghost use Rattle.cuts.specs.Steps.{CutPlace, Follows, NodeOf};
+ghost use Rattle.panel.specs.Judging.{Deep};
 
 // The depth of the panel by its length, or 0 where the length is wrong.
 pub fn depth_of(panel: &[u8]) -> usize
@@ -30,49 +32,64 @@ pub fn depth_of(panel: &[u8]) -> usize
     d + 1
 }
 
-// The place of the leaf bit that names n: the leftmost below its right child.
+// The place of the leaf bit that names n, whose children stand `levels` above depth deep: the leftmost below the right one.
+fn place_above(deep: usize, n: Node, levels: usize) -> usize
+    requires { ⌜ (deep ≤ 17) × (1 ≤ n .0) × (depthOf (n .0) + 1 + levels ≡ deep) ⌝ }
+    ensures { λ r. ⌜ CutPlace deep (n .0) r ⌝ }
+{
+    ((2 * n.0 as usize + 1) << levels) - (1usize << deep)
+}
+
+// The place of the leaf bit that names n.
 pub fn cut_place(deep: usize, n: Node) -> usize
     requires { ⌜ (deep ≤ 17) × (1 ≤ n .0) × (depthOf (n .0) < deep) ⌝ }
     ensures { λ r. ⌜ CutPlace deep (n .0) r ⌝ }
 {
-    let d = nodes::depth(n) as usize;
-    ((2 * n.0 as usize + 1) << (deep - 1 - d)) - (1usize << deep)
+    place_above(deep, n, deep - 1 - nodes::depth(n) as usize)
 }
 
-// Whether node n is cut: whether the leaf bit that names it is set.
+// Whether node n, whose children stand `levels` above depth deep, is cut: whether the leaf bit that names it is set.
+fn is_cut_above(panel: &[u8], deep: usize, n: Node, levels: usize) -> bool
+    requires { ⌜ Room deep (now panel) × (1 ≤ n .0) × (depthOf (n .0) + 1 + levels ≡ deep) ⌝ }
+    ensures { λ r. ⌜ Says (Cut deep (leafBit deep (now (panel .entry))) (n .0)) r ⌝ }
+{
+    sums::leaf_bit(panel, deep, place_above(deep, n, levels)) == 1
+}
+
+// Whether node n is cut. No node of depth deep is.
 pub fn is_cut(panel: &[u8], deep: usize, n: Node) -> bool
     requires { ⌜ Room deep (now panel) × NodeOf deep (n .0) ⌝ }
     ensures { λ r. ⌜ Says (Cut deep (leafBit deep (now (panel .entry))) (n .0)) r ⌝ }
 {
-    if nodes::depth(n) as usize == deep {
+    let d = nodes::depth(n) as usize;
+    if d == deep {
         return false;
     }
-    sums::leaf_bit(panel, deep, cut_place(deep, n)) == 1
+    is_cut_above(panel, deep, n, deep - 1 - d)
 }
 
 // The node that leaf bit p names: with t trailing zeros in p, (2^D + p) / 2^t is a right child, and this its parent.
-fn named_node(deep: usize, p: usize) -> Node
-    requires { ⌜ (deep ≤ 17) × (0 < p) × (p < 2 ^ deep) ⌝ }
+fn named_node(deep: usize, p: usize, t: u32) -> Node
+    requires { ⌜ (deep ≤ 17) × (0 < p) × (p < 2 ^ deep) × (t ≡ trailingZeros 32 p) ⌝ }
     ensures { λ r. ⌜ r .0 ≡ named deep p ⌝ }
 {
-    let t = u32::trailing_zeros(p as u32);
     Node((((1usize << deep) + p) >> t) as u32 / 2)
 }
 
-// Whether n may be cut: its parent is, and its edge neighbour, where that is a node.
-fn may_be_cut(panel: &[u8], deep: usize, n: Node) -> bool
-    requires { ⌜ Room deep (now panel) × (1 ≤ n .0) × (n .0 < 2 ^ deep) ⌝ }
+// Whether n, whose children stand `levels` above depth deep, may be cut: its parent is, and its edge neighbour, where that is a node.
+fn may_be_cut(panel: &[u8], deep: usize, n: Node, levels: usize) -> bool
+    requires { ⌜ Room deep (now panel) × (1 ≤ n .0) × (depthOf (n .0) + 1 + levels ≡ deep) ⌝ }
     ensures { λ r. ⌜ Says (Follows (Cut deep (leafBit deep (now (panel .entry)))) (n .0)) r ⌝ }
 {
     if n.0 < 2 {
         return true;
     }
-    if is_cut(panel, deep, Node(n.0 / 2)) {
+    if is_cut_above(panel, deep, Node(n.0 / 2), levels + 1) {
         let e = nodes::edge_of(n);
         if e == 0 {
             return true;
         }
-        return is_cut(panel, deep, Node(e));
+        return is_cut_above(panel, deep, Node(e), levels);
     }
     false
 }
@@ -83,10 +100,12 @@ fn cuts_good(panel: &[u8], deep: usize) -> bool
     ensures { λ r. ⌜ Says (GoodCuts (Cut deep (leafBit deep (now (panel .entry))))) r ⌝ }
 {
     if is_cut(panel, deep, Node(1)) {
+        let end = 1usize << deep;
         let mut p: usize = 1;
-        while p < 1usize << deep {
+        while p < end {
             if sums::leaf_bit(panel, deep, p) == 1 {
-                if may_be_cut(panel, deep, named_node(deep, p)) {} else {
+                let t = u32::trailing_zeros(p as u32);
+                if may_be_cut(panel, deep, named_node(deep, p, t), t as usize) {} else {
                     return false;
                 }
             }

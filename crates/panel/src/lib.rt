@@ -9,6 +9,8 @@ pub mod changing; // the calls `split` and `merge`
 
 pub use changing::merge;
 pub use changing::split;
+pub use judging::judge;
+pub use opening::open;
 pub use reading::count;
 pub use reading::leaf_at;
 pub use reading::leaf_bits;

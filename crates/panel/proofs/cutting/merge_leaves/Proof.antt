@@ -2,7 +2,7 @@
 use native.Mathlib.Omega.{arith}
 use borrow.Author.Needs.{needs}
 use Rattle.panel.specs.Panels.{CutOf}
-use Rattle.panel.proofs.TakingBack.{Mergeable}
+use Rattle.cuts.proofs.TakingBack.{Mergeable}
 use Rattle.panel.proofs.AtWork.{together-mergeable, merging-deep, merge-made, room-at, summed-at}
 use Rattle.panel.proofs.cutting.merge_leaves.Statement.{statement}
 use Rattle.panel.proofs.cutting.merge_leaves.Tie as tie

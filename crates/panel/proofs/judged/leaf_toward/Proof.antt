@@ -11,14 +11,14 @@ depth-requires c κs = search needs
 cast-d : tie.Need-cast-d
 cast-d c = search needs
 
-sub-t6 : tie.Need-sub-t6
-sub-t6 c = let p = c .before .before .pre in shallow _ (p .0) _ (p .2) (p .1) (c .depth .ensures)
+sub-first : tie.Need-sub-first
+sub-first c = let p = c .before .before .pre in shallow _ (p .0) _ (p .2) (p .1) (c .depth .ensures)
 
-cast-t5 : tie.Need-cast-t5
-cast-t5 c = search needs
+cast-first : tie.Need-cast-first
+cast-first c = search needs
 
-shl-t7 : tie.Need-shl-t7
-shl-t7 c = search needs
+shl-first : tie.Need-shl-first
+shl-first c = search needs
 
 leaf-by-requires : tie.Need-leaf-by-requires
 leaf-by-requires c κs =
@@ -32,4 +32,4 @@ returns c =
 
 pub leaf-toward-spec : {M : Type 1} → statement M
 leaf-toward-spec =
-    tie.close (tie.spec depth-requires cast-d sub-t6 cast-t5 shl-t7 leaf-by-requires returns)
+    tie.close (tie.spec depth-requires cast-d sub-first cast-first shl-first leaf-by-requires returns)

@@ -1,40 +1,41 @@
 -- The loop's invariant: each place passed that is set names a node that may be cut. So at the end every cut node may be.
-use mathlib.Core.Path.{_≡_, sym, _∙_, subst}
+use mathlib.Core.Path.{_≡_, refl, sym, ap, _∙_, subst}
 use mathlib.Core.Logic.{⊎-elim}
 use Prim.Native.Nat.{ℕ, _+_, _-_, _*_, _%_, _^_, _≤_, _<_}
 use native.Mathlib.Omega.{arith}
 use lib.Pow.{pow-mono, pow-pos}
 use borrow.Author.Count.{below-more}
 use Rattle.bits.proofs.Laws.{one-shl}
+use Rattle.nodes.specs.Depth.{depthOf}
 use Rattle.nodes.specs.Table.{Says}
 use Rattle.nodes.proofs.Depths.{pow-next}
 use Rattle.nodes.proofs.Tables.{says-yes, says-no}
 use Rattle.sums.specs.Words.{leafBit}
-use Rattle.panel.specs.Cuts.{Cut, named}
-use Rattle.panel.specs.Judging.{Follows}
-use Rattle.panel.proofs.Following.{good-follows, follows-good, place-cut}
-use Rattle.panel.proofs.Naming.{found}
+use Rattle.cuts.specs.Cuts.{Cut, named}
+use Rattle.cuts.specs.Steps.{Follows}
+use Rattle.cuts.proofs.Following.{good-follows, follows-good, place-cut}
+use Rattle.panel.proofs.Naming.{Found, found}
 use Rattle.panel.proofs.judging.cuts_good.Statement.{statement}
 use Rattle.panel.proofs.judging.cuts_good.Tie as tie
 
 abbrev Inv-loop : tie.InvT-loop
-Inv-loop panel deep p₀ p =
+Inv-loop panel deep end p₀ p =
     (0 < p) × (p ≤ 2 ^ deep)
     × ((q : ℕ) → q < p → 0 < q → leafBit deep panel q ≡ 1 → Follows (Cut deep (leafBit deep panel)) (named deep q))
 
 abbrev μ-loop : tie.MeasureT-loop
-μ-loop panel deep p₀ p = 2 ^ deep - p
+μ-loop panel deep end p₀ p = 2 ^ deep - p
 
 is-cut-requires : tie.Need-is-cut-requires Inv-loop μ-loop
 is-cut-requires c κs =
     let a = c .before in
     (a .pre, record { low = omega arith; high = omega (arith, pow-next (a .args .deep), pow-pos (a .args .deep)) })
 
+shl-end : tie.Need-shl-end Inv-loop μ-loop
+shl-end c = omega arith
+
 loop-holds : tie.Need-loop-holds Inv-loop μ-loop
 loop-holds c = (omega arith, pow-pos (c .before .before .before .args .deep), λ q h l. absurd (omega arith))
-
-shl-loop : tie.Need-shl-loop Inv-loop μ-loop
-shl-loop c = omega arith
 
 -- the loop's bound
 bound : (c : tie.At-loop Inv-loop μ-loop) → 1 * 2 ^ (c .before .before .before .before .args .deep) % 2 ^ 64 ≡ 2 ^ (c .before .before .before .before .args .deep)
@@ -43,15 +44,24 @@ bound c = one-shl (c .before .before .before .before .args .deep) 64 (omega arit
 leaf-bit-requires : tie.Need-leaf-bit-requires Inv-loop μ-loop
 leaf-bit-requires c κs = (c .before .before .before .before .before .pre, omega (arith, bound (c .before)))
 
+-- the node that the place names
+here : (c : tie.Then2 Inv-loop μ-loop) → Found (c .before .before .before .before .before .before .before .args .deep) (c .before .before .before .loop .p)
+here c = found (c .before .before .before .before .before .before .before .args .deep) (c .before .before .before .loop .p) (omega arith) (omega arith) (omega (arith, bound (c .before .before .before)))
+
+cast-t : tie.Need-cast-t Inv-loop μ-loop
+cast-t c = omega (arith, bound (c .before .before .before), pow-mono {i = c .before .before .before .before .before .before .before .args .deep} {j = 17} (omega arith))
+
 named-node-requires : tie.Need-named-node-requires Inv-loop μ-loop
-named-node-requires c κs = omega (arith, bound (c .before .before .before))
+named-node-requires c κs = (omega arith, omega arith, omega (arith, bound (c .before .before .before)), refl)
+
+cast-may-be-cut : tie.Need-cast-may-be-cut Inv-loop μ-loop
+cast-may-be-cut c = omega (arith, here (c .before) .zeros)
 
 may-be-cut-requires : tie.Need-may-be-cut-requires Inv-loop μ-loop
 may-be-cut-requires c κs =
-    let a = c .before .before .before .before .before .before .before .before in
-    let l = c .before .before .before .before .loop in
-    let f = found (a .args .deep) (l .p) (omega arith) (omega arith) (omega (arith, bound (c .before .before .before .before))) in
-    (a .pre, omega (arith, f .low), omega (arith, f .high))
+    let e = c .named-node .ensures in
+    let f = here (c .before) in
+    (c .before .before .before .before .before .before .before .before .pre, omega (arith, f .low), omega (arith, f .levels, ap depthOf e))
 
 -- what the test says of the place that the loop stands at
 test : (c : tie.After-may-be-cut Inv-loop μ-loop) → let a = c .before .before .before .before .before .before .before .before .before .args in
@@ -99,10 +109,12 @@ cuts-good-spec =
     Inv-loop
     μ-loop
     is-cut-requires
+    shl-end
     loop-holds
-    shl-loop
     leaf-bit-requires
+    cast-t
     named-node-requires
+    cast-may-be-cut
     may-be-cut-requires
     returns
     add-p

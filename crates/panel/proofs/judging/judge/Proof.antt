@@ -6,7 +6,7 @@ use lib.Pow.{pow-pos}
 use borrow.Author.Needs.{needs}
 use Rattle.sums.specs.Sums.{Right}
 use Rattle.sums.specs.Words.{leafBit, Room}
-use Rattle.panel.specs.Cuts.{Cut, GoodCuts}
+use Rattle.cuts.specs.Cuts.{Cut, GoodCuts}
 use Rattle.panel.specs.Panels.{deepOf, RightLength, Good}
 use Rattle.panel.proofs.Lengths.{fits-room}
 use Rattle.panel.proofs.Rows.{wrong-length, not-good, is-good}

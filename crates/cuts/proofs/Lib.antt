@@ -1,0 +1,14 @@
+pub mod Covering
+pub mod CutBits
+pub mod NodeSums
+pub mod Places
+pub mod Following
+pub mod Leaves
+pub mod Ranks
+pub mod Numbering
+pub mod Descent
+pub mod ForcedCuts
+pub mod TakingBack
+pub mod ForcedChain
+pub mod OneBit
+pub mod Areas

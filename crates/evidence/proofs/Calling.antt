@@ -1,0 +1,169 @@
+-- Tests of what the calls answer and leave behind: cuts are told node by node, and the rows of a table one after the other.
+use mathlib.Core.Path.{_≡_, refl, subst}
+use mathlib.Core.Bool.{Bool, not, _&&_, _||_, So, Bool·beq}
+use mathlib.Core.Logic.{_≢_, inr, ⊎-elim}
+use mathlib.Core.List.{List, [], _∷_, _++_}
+use Prim.Native.Nat.{ℕ, suc, _+_, _*_, _/_, _^_, _≤_, _<_}
+use native.Mathlib.Omega.{arith}
+use lib.ListN.{length}
+use lib.Pow.{pow-mono}
+use lib.Dec.{leb, ltb, eqb}
+use borrow.Author.Tests.{ltb-true, eqb-true}
+use Rattle.nodes.specs.Depth.{depthOf}
+use Rattle.nodes.specs.Neighbours.{edge}
+use Rattle.nodes.specs.Table.{Row, unless, Answers, Outcome, Says}
+use Rattle.nodes.proofs.Depths.{At, at-depth}
+use Rattle.nodes.proofs.Tables.{is-done}
+use Rattle.panel.specs.Panels.{deepOf, CutOf, Good, InRange, LeafOf, numberIn, leafCount}
+use Rattle.cuts.specs.Cuts.{sibling}
+use Rattle.panel.specs.Calls.{panelRows, Together, Fresh, SplitAt, MergeAt}
+use Rattle.cuts.proofs.ForcedCuts.{Forced, Added, forced-at, smallest-added, smallest-iff}
+use Rattle.panel.proofs.Rows.{is-good, behind}
+use Rattle.panel.proofs.SameBytes.{deep-same}
+use Rattle.evidence.specs.Known.{LeavesFrom, Leaves}
+use Rattle.evidence.proofs.Saying.{says-same, says-le, says-lt, imply, says-iff, says-and, says-or, says-imply, says-not, _and_, upTo, Decided, same-sets, sameList, same-list, Tested, firstNo, answered, byAnswer, outcome-shown}
+use Rattle.evidence.proofs.Testing.{leafIn, says-leaf, forcedIn, says-forced, cutOf, decided, goodPanel, good-shown}
+
+-- ---- leaves by number
+
+-- the leaves from number i on are ks, and there are no more
+unfoldable pub leavesIn : List ℕ → ℕ → List ℕ → Bool
+leavesIn t i [] = eqb i (leafCount t)
+leavesIn t i (k ∷ ks) = ltb i (leafCount t) && leafIn (cutOf t) k && eqb (numberIn t k) i && leavesIn t (suc i) ks
+
+pub leaves-shown : {t : List ℕ} → Good t → (i : ℕ) (ks : List ℕ) → So (leavesIn t i ks) → LeavesFrom t i ks
+unfolding leavesIn
+leaves-shown {t} G i [] e = is-done (is-good G) (eqb-true i (leafCount t) e)
+leaves-shown {t} G i (k ∷ ks) e =
+    let (((h, l), n), more) = (ltb-true i (leafCount t) and says-leaf (decided (G .fits)) k .yes and eqb-true (numberIn t k) i and leaves-shown G (suc i) ks) e in
+    (is-done (behind (unless 8 (i < leafCount t) ∷ []) G (inr (h, refl))) (record { leaf = l; number = n }), more)
+
+-- ---- what open leaves
+
+unfoldable pub freshIn : ℕ → List ℕ → Bool
+freshIn D t = eqb (deepOf t) D && upTo (2 ^ deepOf t) (λ n. Bool·beq (cutOf t n) (eqb n 1))
+
+pub fresh-shown : {D : ℕ} {t : List ℕ} → Good t → So (freshIn D t) → Fresh D t
+unfolding freshIn
+fresh-shown {D} {t} G e =
+    let d = decided (G .fits) in
+    let one : Decided (2 ^ deepOf t) (λ n. n ≡ 1) (λ n. eqb n 1) = record { says = λ n. says-same n 1; high = λ n r. omega (arith, d .high 1 (G .cuts .root)) } in
+    let (deep, cuts) = (eqb-true (deepOf t) D and same-sets d one) e in
+    record { good = G; deep = deep; cuts = cuts }
+
+-- ---- what split and merge leave
+
+-- the cuts of a panel as long as s
+as-long : (s : List ℕ) {t : List ℕ} → Good t → length t ≡ length s → Decided (2 ^ deepOf s) (CutOf t) (cutOf t)
+as-long s {t} G e = subst (λ D. Decided (2 ^ D) (CutOf t) (cutOf t)) (deep-same s t e) (decided (G .fits))
+
+unfoldable pub splitIn : List ℕ → ℕ → List ℕ → Bool
+splitIn s k t =
+    eqb (length t) (length s) && leafIn (cutOf s) k && ltb (depthOf k) (deepOf s)
+    && upTo (2 ^ deepOf s) (λ n. Bool·beq (cutOf s n || forcedIn (depthOf k) k n) (cutOf t n))
+
+pub split-shown : {s t : List ℕ} (k : ℕ) → Good s → Good t → So (splitIn s k t) → SplitAt s k t
+unfolding splitIn
+split-shown {s} {t} k S T e =
+    let (((long, l), deep), same) = (eqb-true (length t) (length s) and says-leaf d k .yes and ltb-true (depthOf k) (deepOf s) and (λ x. x)) e in
+    let a : At (depthOf k) k = at-depth (omega (arith, l .low)) in
+    record {
+      good = T;
+      long = long;
+      cuts = smallest-iff (same-sets (added a deep) (as-long s T long) same) (smallest-added (CutOf s) (S .cuts) (depthOf k) k a (λ h. l .parent));
+    }
+  where
+    d : Decided (2 ^ deepOf s) (CutOf s) (cutOf s)
+    d = decided (S .fits)
+
+    high : At (depthOf k) k → depthOf k < deepOf s → (n : ℕ) → Forced (depthOf k) k n → n < 2 ^ deepOf s
+    high a deep n f =
+        let (c, h, b) = forced-at (depthOf k) k n a f in
+        omega (arith, b .high, pow-mono (let g : suc c ≤ deepOf s = omega arith in g))
+
+    added : At (depthOf k) k → depthOf k < deepOf s → Decided (2 ^ deepOf s) (Added (CutOf s) (depthOf k) k) (λ n. cutOf s n || forcedIn (depthOf k) k n)
+    added a deep = record {
+      says = λ n. says-or (d .says n) (says-forced (depthOf k) k n);
+      high = λ n. ⊎-elim (d .high n) (high a deep n);
+    }
+
+unfoldable pub mergeIn : List ℕ → ℕ → List ℕ → Bool
+mergeIn s k t =
+    eqb (length t) (length s)
+    && upTo (2 ^ deepOf s) (λ n. Bool·beq (cutOf t n) (cutOf s n && not (eqb n (k / 2)) && not (eqb n (edge (k / 2)))))
+
+pub merge-shown : {s t : List ℕ} (k : ℕ) → Good s → Good t → So (mergeIn s k t) → MergeAt s k t
+unfolding mergeIn
+merge-shown {s} {t} k S T e =
+    let (long, same) = (eqb-true (length t) (length s) and (λ x. x)) e in
+    record { good = T; long = long; cuts = same-sets (as-long s T long) kept same }
+  where
+    kept : Decided (2 ^ deepOf s) (λ n. CutOf s n × (n ≢ k / 2) × (n ≢ edge (k / 2))) (λ n. cutOf s n && not (eqb n (k / 2)) && not (eqb n (edge (k / 2))))
+    kept = record {
+      says = λ n. says-iff (λ x. (x .0 .0, x .0 .1, x .1)) (λ x. ((x .0, x .1), x .2)) (says-and (says-and (decided (S .fits) .says n) (says-not (says-same n (k / 2)))) (says-not (says-same n (edge (k / 2)))));
+      high = λ n x. decided (S .fits) .high n (x .0);
+    }
+
+-- ---- what split and merge answer
+
+rangeIn : List ℕ → ℕ → Bool
+rangeIn s k = leb 2 k && ltb k (2 ^ (deepOf s + 1))
+
+says-range : (s : List ℕ) (k : ℕ) → Says (InRange s k) (rangeIn s k)
+unfolding rangeIn
+says-range s k =
+    says-iff (λ x. record { low = x .0; high = x .1 }) (λ x. (x .low, x .high)) (says-and (says-le 2 k) (says-lt k (2 ^ (deepOf s + 1))))
+
+-- the leaves that a merge needs
+togetherIn : List ℕ → ℕ → Bool
+togetherIn s k =
+    leafIn (cutOf s) (sibling k)
+    && imply (not (eqb (edge (k / 2)) 0)) (leafIn (cutOf s) (2 * edge (k / 2)) && leafIn (cutOf s) (2 * edge (k / 2) + 1))
+
+says-together : {s : List ℕ} → Good s → (k : ℕ) → Says (Together s k) (togetherIn s k)
+unfolding togetherIn
+says-together {s} S k =
+    says-iff (λ x. record { beside = x .0; across = x .1 }) (λ x. (x .beside, x .across))
+    (says-and (leaf (sibling k)) (says-imply (says-not (says-same (edge (k / 2)) 0)) (says-and (leaf (2 * edge (k / 2))) (leaf (2 * edge (k / 2) + 1)))))
+  where
+    leaf : (n : ℕ) → Says (LeafOf s n) (leafIn (cutOf s) n)
+    leaf = says-leaf (decided (S .fits))
+
+-- the rows behind the judgement, and their tests
+abbrev pub splitRows : List ℕ → ℕ → List Row
+splitRows s k = unless 3 (InRange s k) ∷ unless 4 (LeafOf s k) ∷ unless 5 (depthOf k < deepOf s) ∷ []
+
+unfoldable pub splitTests : List ℕ → ℕ → List Bool
+unfolding rangeIn
+splitTests s k = rangeIn s k ∷ leafIn (cutOf s) k ∷ ltb (depthOf k) (deepOf s) ∷ []
+
+pub split-tested : {s : List ℕ} → Good s → (k : ℕ) → Tested (splitRows s k) (splitTests s k)
+unfolding splitTests
+split-tested {s} S k = (says-range s k, (says-leaf (decided (S .fits)) k, (says-lt (depthOf k) (deepOf s), tt)))
+
+abbrev pub mergeRows : List ℕ → ℕ → List Row
+mergeRows s k = unless 3 (InRange s k) ∷ unless 4 (LeafOf s k) ∷ unless 6 (1 < depthOf k) ∷ unless 7 (Together s k) ∷ []
+
+unfoldable pub mergeTests : List ℕ → ℕ → List Bool
+unfolding rangeIn togetherIn
+mergeTests s k = rangeIn s k ∷ leafIn (cutOf s) k ∷ ltb 1 (depthOf k) ∷ togetherIn s k ∷ []
+
+pub merge-tested : {s : List ℕ} → Good s → (k : ℕ) → Tested (mergeRows s k) (mergeTests s k)
+unfolding mergeTests
+merge-tested {s} S k = (says-range s k, (says-leaf (decided (S .fits)) k, (says-lt 1 (depthOf k), (says-together S k, tt))))
+
+-- ---- a call that changes a panel
+
+-- from panel s the rows behind the judgement answer n, and leave t with the leaves ks; done tests what is so where n is 0
+unfoldable pub changed : List Row → List Bool → Bool → List ℕ → ℕ → List ℕ → List ℕ → Bool
+changed rows bs done s n t ks =
+    goodPanel s && goodPanel t && eqb (firstNo rows bs) n && byAnswer n done (sameList eqb t s) && leavesIn t 0 ks
+
+pub changed-shown : (rows : List Row) (bs : List Bool) {done : Bool} {s : List ℕ} (n : ℕ) {t : List ℕ} (ks : List ℕ) {Done : List ℕ → Type 0}
+    → (Good s → Tested rows bs) → (Good s → Good t → So done → Done t)
+    → So (changed rows bs done s n t ks) → Outcome (panelRows s ++ rows) (List ℕ) Done (λ x. x ≡ s) n t × Leaves t ks
+unfolding changed
+changed-shown rows bs {s = s} n {t} ks tested shown e =
+    let ((((S, T), a), x), y) = (good-shown s and good-shown t and eqb-true (firstNo rows bs) n and (λ x. x) and (λ y. y)) e in
+    let answers = behind rows S (subst (Answers rows) a (answered rows bs (tested S))) in
+    (outcome-shown n answers (shown S T) (same-list eqb-true t s) x, leaves-shown T 0 ks y)

@@ -1,0 +1,83 @@
+-- The known panels: one test of all cases, which the checker computes, and the law that a case whose test passes holds.
+use mathlib.Core.Path.{_≡_, refl, _∙_, subst}
+use mathlib.Core.Bool.{Bool, true, _&&_, So}
+use mathlib.Core.Logic.{inr}
+use mathlib.Core.List.{List, [], _∷_}
+use Prim.Native.Nat.{ℕ, _+_, _^_}
+use lib.ListN.{length}
+use lib.Dec.{leb, ltb, eqb}
+use borrow.Author.Tests.{leb-true, ltb-true, eqb-true}
+use Rattle.bits.specs.Bits.{run}
+use Rattle.nodes.specs.Depth.{depthOf, depthIn}
+use Rattle.nodes.specs.Limits.{greatestDepth}
+use Rattle.nodes.specs.Neighbours.{neighboursOf, neighboursAt}
+use Rattle.nodes.specs.Corners.{cornersOf, cornersAt}
+use Rattle.nodes.specs.Table.{Answers}
+use Rattle.nodes.specs.Calls.{nodeRows}
+use Rattle.nodes.proofs.Tables.{is-done}
+use Rattle.sums.specs.Rank.{rank}
+use Rattle.sums.specs.Words.{word, leafBit}
+use Rattle.panel.specs.Panels.{Fits}
+use Rattle.panel.specs.Calls.{Fresh, Open}
+use Rattle.panel.proofs.Rows.{is-good}
+use Rattle.evidence.specs.Known.{Case, judged, opens, splits, merges, neighbours, corners, Holds, Every, knownCases}
+use Rattle.evidence.proofs.Saying.{_and_, upTo, sameList, same-list, firstNo}
+use Rattle.evidence.proofs.Testing.{cutIn, goodIn, leafIn, forcedIn, fitsIn, sumsIn, rightIn, goodPanel, good-shown}
+use Rattle.evidence.proofs.Calling.{leavesIn, leaves-shown, freshIn, fresh-shown, splitIn, split-shown, mergeIn, merge-shown, splitRows, splitTests, split-tested, mergeRows, mergeTests, merge-tested, changed, changed-shown}
+
+knownNode : ℕ → Bool
+knownNode n = leb 2 n && ltb n (2 ^ (greatestDepth + 1))
+
+known-node : (n : ℕ) → So (knownNode n) → Answers (nodeRows n) 0
+unfolding knownNode
+known-node n e =
+    let (low, high) = (leb-true 2 n and ltb-true n (2 ^ (greatestDepth + 1))) e in inr (record { low = low; high = high }, refl)
+
+-- any bytes of the fresh panel's length are opened so
+opened-any : {D : ℕ} {t : List ℕ} → Fresh D t → (s : List ℕ) → length s ≡ length t → Open s D 0 t
+opened-any {D} {t} F s e =
+    let f : Fits t D = subst (Fits t) (F .deep) (F .good .fits) in
+    is-done (inr (record { low = f .low; high = f .high; long = e ∙ f .long }, refl)) F
+
+-- ---- the test of a case, and what it shows
+
+test : Case → Bool
+test (judged t ks) = goodPanel t && leavesIn t 0 ks
+test (opens D t ks) = goodPanel t && freshIn D t && leavesIn t 0 ks
+test (splits s k n t ks) = changed (splitRows s k) (splitTests s k) (splitIn s k t) s n t ks
+test (merges s k n t ks) = changed (mergeRows s k) (mergeTests s k) (mergeIn s k t) s n t ks
+test (neighbours n l r e) =
+    knownNode n && eqb l (neighboursOf n .left) && eqb r (neighboursOf n .right) && eqb e (neighboursOf n .edge)
+test (corners n t) = knownNode n && sameList (sameList eqb) t (cornersOf n)
+
+sound : (c : Case) → So (test c) → Holds c
+unfolding test
+sound (judged t ks) e =
+    let (G, x) = (good-shown t and (λ x. x)) e in (is-good G, leaves-shown G 0 ks x)
+sound (opens D t ks) e =
+    let ((G, x), y) = (good-shown t and (λ x. x) and (λ y. y)) e in (opened-any (fresh-shown G x), leaves-shown G 0 ks y)
+sound (splits s k n t ks) e = changed-shown (splitRows s k) (splitTests s k) n ks (λ S. split-tested S k) (split-shown k) e
+sound (merges s k n t ks) e = changed-shown (mergeRows s k) (mergeTests s k) n ks (λ S. merge-tested S k) (merge-shown k) e
+sound (neighbours n l r e) z =
+    let (((a, p), q), o) = (known-node n and eqb-true l (neighboursOf n .left) and eqb-true r (neighboursOf n .right) and eqb-true e (neighboursOf n .edge)) z in
+    is-done a (λ i. record { left = p i; right = q i; edge = o i })
+sound (corners n t) e =
+    let (a, p) = (known-node n and same-list (same-list eqb-true) t (cornersOf n)) e in is-done a p
+
+-- ---- all cases
+
+tests : List Case → Bool
+tests [] = true
+tests (c ∷ cs) = test c && tests cs
+
+all-sound : (cs : List Case) → So (tests cs) → Every cs
+unfolding tests
+all-sound [] e = tt
+all-sound (c ∷ cs) e = (sound c and all-sound cs) e
+
+tested : So (tests knownCases)
+unfolding tests test knownNode upTo sameList firstNo cutIn goodIn leafIn forcedIn fitsIn sumsIn rightIn goodPanel leavesIn freshIn splitIn mergeIn splitTests mergeTests changed run word leafBit rank depthOf depthIn neighboursOf neighboursAt cornersOf cornersAt
+tested = refl
+
+pub known : Every knownCases
+known = all-sound knownCases tested
