@@ -179,6 +179,12 @@ bit-at bs i k h =
 byte-run : (n : ℕ) → n < 256 → n ≡ run (digit n) 0 8
 byte-run n h = sym (run-digits n 0 8 ∙ omega arith)
 
+-- a byte is the field of its eight bits
+pub field-byte : (bs : List ℕ) (i : ℕ) → getD bs i 0 < 256 → field bs (8 * i) 8 ≡ getD bs i 0
+field-byte bs i h =
+    run-ext (bit bs) (digit (getD bs i 0)) (8 * i) 0 8 (λ k l. bit-at bs i k l ∙ ap (digit (getD bs i 0)) (omega arith))
+    ∙ sym (byte-run (getD bs i 0) h)
+
 pub ext-bits : (xs ys : List ℕ) → Bytes xs → Bytes ys → length xs ≡ length ys → ((p : ℕ) → p / 8 < length xs → bit xs p ≡ bit ys p) → xs ≡ ys
 ext-bits xs ys hx hy e h =
     ext-getD 0 xs ys e (λ i l. byte-run (getD xs i 0) (hx i)
