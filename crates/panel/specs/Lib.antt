@@ -3,3 +3,4 @@ pub mod Panels
 pub mod Calls
 pub mod Judging
 pub mod Opening
+pub mod Descents

@@ -1,0 +1,60 @@
+// Reading a panel that was judged good, `deep` its depth. These are no public calls: a caller judges first.
+use crate::descending::Aim;
+use crate::descending::Stop;
+use crate::descending::leaf_by;
+use nodes::LeafNumber;
+use nodes::Node;
+ghost use mathlib.Core.Path.{_≡_};
+ghost use Prim.Native.Nat.{_≤_, _<_};
+ghost use Rattle.nodes.specs.Table.{Says};
+ghost use Rattle.panel.specs.Panels.{deepOf, Good, InRange, LeafOf, leafCount};
+ghost use Rattle.panel.specs.Calls.{LeafNumbered};
+ghost use Rattle.panel.specs.Descents.{OnFirstWay, Ranged};
+
+// The leaf count: word 1.
+pub fn count(panel: &[u8], deep: usize) -> u32
+    requires { ⌜ Good (now panel) × (deep ≡ deepOf (now panel)) ⌝ }
+    ensures { λ r. ⌜ r ≡ leafCount (now (panel .entry)) ⌝ }
+{
+    sums::get_word(panel, deep, 1)
+}
+
+// The leaf of number i, which is below the count.
+pub fn leaf_at(panel: &[u8], deep: usize, i: LeafNumber) -> Node
+    requires { ⌜ Good (now panel) × (deep ≡ deepOf (now panel)) × (i .0 < leafCount (now panel)) ⌝ }
+    ensures { λ r. ⌜ LeafNumbered (now (panel .entry)) (i .0) (r .0) ⌝ }
+{
+    let s = leaf_by(panel, deep, Aim::Number(i));
+    s.node
+}
+
+// Whether k is a node of a panel, by its depth.
+pub fn in_range(deep: usize, k: Node) -> bool
+    requires { ⌜ deep ≤ 17 ⌝ }
+    ensures { λ r. ⌜ Says (Ranged deep (k .0)) r ⌝ }
+{
+    let n = k.0;
+    if n < 2 {
+        return false;
+    }
+    n < 2u32 << deep
+}
+
+// The leaf on the way from node 1 to the first node of depth D below k, and its number: k itself where k is a leaf,
+// the leaf above k where k lies below one.
+pub fn leaf_toward(panel: &[u8], deep: usize, k: Node) -> Stop
+    requires { ⌜ Good (now panel) × (deep ≡ deepOf (now panel)) × InRange (now panel) (k .0) ⌝ }
+    ensures { λ r. ⌜ OnFirstWay (now (panel .entry)) (k .0) (r .node .0) (r .number .0) ⌝ }
+{
+    let d = nodes::depth(k) as usize;
+    leaf_by(panel, deep, Aim::Below(Node(k.0 << (deep - d))))
+}
+
+// Whether k is a leaf.
+pub fn is_leaf(panel: &[u8], deep: usize, k: Node) -> bool
+    requires { ⌜ Good (now panel) × (deep ≡ deepOf (now panel)) × InRange (now panel) (k .0) ⌝ }
+    ensures { λ r. ⌜ Says (LeafOf (now (panel .entry)) (k .0)) r ⌝ }
+{
+    let s = leaf_toward(panel, deep, k);
+    s.node.0 == k.0
+}
