@@ -1,20 +1,20 @@
 -- One step down: the node's place says where its children's words start, and the aim stays below the node.
 use mathlib.Core.Path.{_≡_, sym, ap, ap₂, _∙_, subst, subst⁻¹}
 use mathlib.Core.List.{List}
-use Prim.Native.Nat.{ℕ, zero, suc, _+_, _-_, _*_, _/_, _%_, _^_, _≤_, _<_}
+use Prim.Native.Nat.{ℕ, suc, _+_, _-_, _*_, _/_, _^_, _≤_, _<_}
 use native.Mathlib.Nat.{mul-add, mul-one, mul-assoc, one-mul}
 use native.Mathlib.Omega.{arith}
 use lib.ListN.{length}
-use lib.Pow.{pow-mono}
+use lib.Pow.{pow-mono, pow-pos}
 use Rattle.bits.specs.Bits.{field}
 use Rattle.bits.proofs.Laws.{field-lt}
 use Rattle.nodes.specs.Depth.{depthOf}
 use Rattle.nodes.proofs.Depths.{At, pow-next, at-root, at-from, ancestor, at-ancestor, depth-is, depth-left, depth-right, below-depth}
-use Rattle.sums.specs.Words.{width, start, word, leafBit, Room}
+use Rattle.sums.specs.Words.{width, word, leafBit, Room}
 use Rattle.sums.proofs.Slots.{from, wide, packed, in-panel}
 use Rattle.panel.specs.declared.descending.Aim.{Aim}
 use Rattle.panel.specs.declared.descending.Aim.the-variants.{Number, Below}
-use Rattle.panel.specs.Panels.{deepOf, CutOf, Good, LeafOf, numberIn, leafCount}
+use Rattle.panel.specs.Panels.{deepOf, CutOf, Good, LeafOf, leafCount}
 use Rattle.panel.specs.Descents.{Askable, Meets, Stopped, Spot, Heading, Leftward}
 use Rattle.panel.proofs.Lengths.{fits-bits, fits-room}
 use Rattle.panel.proofs.Places.{cut-depth}
@@ -151,6 +151,10 @@ module _ (s : List ℕ) (G : Good s) where
   module _ {D : ℕ} (deep : D ≡ deepOf s) where
     pub good-room : Room D s
     good-room = subst⁻¹ (λ x. Room x s) deep (fits-room s (deepOf s) (G .fits))
+
+    -- word 1 can be read
+    pub root-room : Room D s × (1 < 2 ^ (D + 1))
+    root-room = (good-room, omega (arith, pow-next D, pow-pos D))
 
     module _ (n : ℕ) (e : n ≡ word D s 1) where
       counted : n ≡ leafCount s

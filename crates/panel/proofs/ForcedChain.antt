@@ -1,5 +1,5 @@
 -- Split goes up from leaf k, two cuts a step: what is cut so far and what the next node forces are always, together, what k forces.
-use mathlib.Core.Path.{_≡_, sym, ap, _∙_, subst}
+use mathlib.Core.Path.{_≡_, ap, subst}
 use mathlib.Core.Logic.{_≢_, _⊎_, inl, inr, ⊎-elim, _↔_, Iff·symm}
 use Prim.Native.Nat.{ℕ, suc, _/_, _≤_, _<_}
 use native.Mathlib.Omega.{arith}
@@ -7,7 +7,7 @@ use lib.Pow.{pow-pos}
 use Rattle.nodes.specs.Depth.{depthOf}
 use Rattle.nodes.specs.Neighbours.{edge}
 use Rattle.nodes.proofs.Depths.{At, at-parent, at-depth, depth-is}
-use Rattle.nodes.proofs.Edges.{edge-low, edge-mutual, edge-level}
+use Rattle.nodes.proofs.Edges.{edge-level}
 use Rattle.panel.specs.Cuts.{GoodCuts, Smallest, Leaf}
 use Rattle.panel.proofs.ForcedCuts.{Forced, Added, already, next, smallest-added, smallest-iff}
 
@@ -51,43 +51,16 @@ module _ {P : ℕ → Type 0} (G : GoodCuts P) {k : ℕ} where
     m-low : 2 ≤ m
     m-low = omega (arith, c .at, pow-pos d)
 
-    -- where the next node is not cut, its neighbour isn't either
-    pub chain-edge : (C m → ⊥) → C (edge m) → edge m ≢ 0 → ⊥
-    chain-edge z q e =
-        ⊎-elim (λ p. z (c .old m (subst P (edge-mutual m e) (G .over (edge m) (edge-low (edge m) again) p again))))
-        (λ h. absurd (omega (arith, depth-is (edge-level (suc d) m (c .at) e)))) (c .deep (edge m) q)
-      where
-        again : edge (edge m) ≢ 0
-        again = subst (λ x. x ≢ 0) (sym (edge-mutual m e)) (omega (arith, m-low))
-
-    only-own : {B : ℕ → Type 0} → ((n : ℕ) → Forced (suc d) m n → C n ⊎ (n ≡ m)) → ((n : ℕ) → B n ↔ (C n ⊎ (n ≡ m)))
-        → (n : ℕ) → B n ↔ Added P (depthOf k) k n
-    only-own own b n = (
-      λ q. ⊎-elim (c .made n) (λ e. inr (c .rest n (inl e))) (b n .0 q),
-      ⊎-elim (λ p. b n .1 (inl (c .old n p))) (λ f. b n .1 (⊎-elim inl (own n) (c .all n f))),
-    )
-
     -- where it has no neighbour, its own cut is the last
     pub chain-last : {B : ℕ → Type 0} → edge m ≡ 0 → ((n : ℕ) → B n ↔ (C n ⊎ (n ≡ m))) → (n : ℕ) → B n ↔ Added P (depthOf k) k n
-    chain-last z = only-own own
+    chain-last z b n = (
+      λ q. ⊎-elim (c .made n) (λ e. inr (c .rest n (inl e))) (b n .0 q),
+      ⊎-elim (λ p. b n .1 (inl (c .old n p))) (λ f. b n .1 (⊎-elim inl own (c .all n f))),
+    )
       where
-        own : (n : ℕ) → Forced (suc d) m n → C n ⊎ (n ≡ m)
-        own n (inl e) = inr e
-        own n (inr (w, f)) = absurd (w z)
-
-    -- and so where its neighbour is cut by now
-    pub chain-met : {B : ℕ → Type 0} → (C m → ⊥) → edge m ≢ 0 → ((n : ℕ) → B n ↔ (C n ⊎ (n ≡ m))) → B (edge m)
-        → (n : ℕ) → B n ↔ Added P (depthOf k) k n
-    chain-met z e b q = only-own own b
-      where
-        itself : edge m ≡ m
-        itself = ⊎-elim (λ x. absurd (chain-edge z x e)) (λ x. x) (b (edge m) .0 q)
-
-        own : (n : ℕ) → Forced (suc d) m n → C n ⊎ (n ≡ m)
-        own n (inl r) = inr r
-        own n (inr (w, inl r)) = inr (r ∙ itself)
-        own n (inr (w, inr f)) =
-            inl (c .old n (already P G d (edge m / 2) (at-parent (edge-level (suc d) m (c .at) w)) (subst (λ x. P (x / 2)) (sym itself) (c .parent m-low)) n f))
+        own : Forced (suc d) m n → C n ⊎ (n ≡ m)
+        own (inl e) = inr e
+        own (inr (w, f)) = absurd (w z)
 
     -- else its cut and its neighbour's are made, and the neighbour's parent is next
     pub chain-step : {B : ℕ → Type 0} → edge m ≢ 0 → ((n : ℕ) → B n ↔ (C n ⊎ (n ≡ m) ⊎ (n ≡ edge m))) → Chain P k B d (edge m / 2)

@@ -4,7 +4,6 @@ use mathlib.Core.Logic.{_≢_, _⊎_, inl, inr, ⊎-elim, _↔_}
 use Prim.Native.Nat.{ℕ, suc, _+_, _-_, _*_, _^_, _≤_, _<_}
 use native.Mathlib.Decide.{ℕ-discrete}
 use native.Mathlib.Omega.{arith}
-use lib.Pow.{pow-pos}
 use Rattle.nodes.specs.Depth.{depthOf}
 use Rattle.nodes.proofs.Depths.{at-depth, depth-right}
 use Rattle.panel.specs.Cuts.{Cut, named, placeOf}
@@ -28,10 +27,6 @@ cut-same D f g e n = (λ c. moved c (sym (e (c .place) (c .high))), λ c. moved 
 -- ---- one bit changed
 
 module _ {D : ℕ} (l : D ≤ 32) {n p : ℕ} (at : CutPlace D n p) {f g : ℕ → ℕ} where
-  -- the first bit is no cut's
-  pub first-kept : {v : ℕ} → OneBit D f g p v → g 0 ≡ f 0
-  first-kept b = b .other 0 (pow-pos D) (omega (arith, at .low))
-
   cut-other : {v : ℕ} → OneBit D f g p v → (m : ℕ) → m ≢ n → Cut D g m ↔ Cut D f m
   cut-other b m z = (λ c. moved c (sym (same c)), λ c. moved c (same c))
     where

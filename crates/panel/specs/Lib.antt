@@ -3,4 +3,5 @@ pub mod Panels
 pub mod Calls
 pub mod Judging
 pub mod Opening
+pub mod Changing
 pub mod Descents

@@ -1,17 +1,11 @@
 -- The descent starts at node 1, whose word is the count, and every aim that is there lies below it.
-use Prim.Native.Nat.{_+_, _^_}
-use native.Mathlib.Omega.{arith}
-use lib.Pow.{pow-pos}
-use Rattle.nodes.proofs.Depths.{pow-next}
-use Rattle.panel.proofs.Downward.{good-room, root-spot, root-heading}
+use Rattle.panel.proofs.Downward.{root-room, root-spot, root-heading}
 use borrow.Author.Needs.{needs}
 use Rattle.panel.proofs.descending.leaf_by.Statement.{statement}
 use Rattle.panel.proofs.descending.leaf_by.Tie as tie
 
 get-word-requires : tie.Need-get-word-requires
-get-word-requires c κs =
-    let p = c .before .pre in
-    (good-room _ (p .0) (p .1), omega (arith, pow-next (c .before .args .deep), pow-pos (c .before .args .deep)))
+get-word-requires c κs = let p = c .before .pre in root-room _ (p .0) (p .1)
 
 add-descend : tie.Need-add-descend
 add-descend c = search needs

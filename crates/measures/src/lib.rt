@@ -1,0 +1,41 @@
+// Functions that are no public calls, exported for measuring alone.
+use nodes::Node;
+ghost use mathlib.Core.Path.{_≡_};
+ghost use Prim.Native.Nat.{_^_, _≤_, _<_};
+ghost use Rattle.nodes.specs.Neighbours.{edge};
+ghost use Rattle.nodes.specs.Refusals.{answerNumber};
+ghost use Rattle.nodes.specs.Table.{Says};
+ghost use Rattle.sums.specs.Words.{Room};
+ghost use Rattle.sums.specs.Sums.{Right, Summed};
+ghost use Rattle.panel.specs.Calls.{Judged};
+
+#[no_mangle]
+pub extern "C" fn measure_all_right(bytes: &[u8], deep: usize) -> bool
+    requires { ⌜ Room deep (now bytes) ⌝ }
+    ensures { λ r. ⌜ Says (Right deep (now (bytes .entry))) r ⌝ }
+{
+    sums::all_right(bytes, deep)
+}
+
+#[no_mangle]
+pub extern "C" fn measure_make_sums(bytes: &mut [u8], deep: usize)
+    requires { ⌜ Room deep (now bytes) ⌝ }
+    ensures { λ _. ⌜ Summed deep (now (bytes .entry)) (now (bytes .exit)) ⌝ }
+{
+    sums::make_sums(bytes, deep);
+}
+
+#[no_mangle]
+pub extern "C" fn measure_judge(panel: &[u8]) -> u32
+    ensures { λ r. ⌜ Judged (now (panel .entry)) r ⌝ }
+{
+    panel::judging::judge(panel).number()
+}
+
+#[no_mangle]
+pub extern "C" fn measure_edge(node: u32) -> u32
+    requires { ⌜ (2 ≤ node) × (node < 2 ^ 18) ⌝ }
+    ensures { λ r. ⌜ r ≡ edge node ⌝ }
+{
+    nodes::edge_of(Node(node))
+}

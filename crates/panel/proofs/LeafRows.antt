@@ -1,0 +1,49 @@
+-- The rows of the tables of calls that take a node or a leaf number, as a `return` proves them, and what a call that is done has passed.
+use mathlib.Core.Path.{refl}
+use mathlib.Core.Logic.{inl, inr}
+use mathlib.Core.List.{List, [], _∷_, _++_}
+use Prim.Native.Nat.{ℕ, _<_}
+use native.Mathlib.Omega.{arith}
+use Rattle.nodes.specs.Table.{Row, unless, Answers}
+use Rattle.panel.specs.Panels.{Good, InRange, LeafOf, leafCount}
+use Rattle.panel.specs.Calls.{panelRows, leafRows}
+use Rattle.panel.proofs.Rows.{behind}
+
+-- ---- calls that take a node: the rows behind 3 and 4 decide where it is a leaf
+
+module _ {s : List ℕ} {k : ℕ} (rows : List Row) where
+  pub no-such-node : Good s → (InRange s k → ⊥) → Answers (leafRows s k ++ rows) 3
+  no-such-node g f = behind (unless 3 (InRange s k) ∷ unless 4 (LeafOf s k) ∷ rows) g (inl (f, refl))
+
+  pub not-leaf : Good s → InRange s k → (LeafOf s k → ⊥) → Answers (leafRows s k ++ rows) 4
+  not-leaf g r f = behind (unless 3 (InRange s k) ∷ unless 4 (LeafOf s k) ∷ rows) g (inr (r, inl (f, refl)))
+
+  pub is-leaf : {n : ℕ} → Good s → InRange s k → LeafOf s k → Answers rows n → Answers (leafRows s k ++ rows) n
+  is-leaf g r l a = behind (unless 3 (InRange s k) ∷ unless 4 (LeafOf s k) ∷ rows) g (inr (r, inr (l, a)))
+
+-- ---- calls that take a leaf number
+
+abbrev pub numberRows : List ℕ → ℕ → List Row
+numberRows s i = panelRows s ++ unless 8 (i < leafCount s) ∷ []
+
+module _ {s : List ℕ} {i : ℕ} where
+  pub no-such-number : Good s → (i < leafCount s → ⊥) → Answers (numberRows s i) 8
+  no-such-number g f = behind (unless 8 (i < leafCount s) ∷ []) g (inl (f, refl))
+
+  pub is-number : Good s → i < leafCount s → Answers (numberRows s i) 0
+  is-number g h = behind (unless 8 (i < leafCount s) ∷ []) g (inr (h, refl))
+
+-- ---- what a call that is done has passed
+
+pub good-past : {s : List ℕ} (rows : List Row) → Answers (panelRows s ++ rows) 0 → Good s × Answers rows 0
+good-past rows (inl p) = absurd (omega (arith, p .1))
+good-past rows (inr (l, inl p)) = absurd (omega (arith, p .1))
+good-past rows (inr (l, inr a)) = a
+
+pub leaf-past : {s : List ℕ} {k : ℕ} → Answers (leafRows s k) 0 → Good s × LeafOf s k
+leaf-past {s} {k} a = let (g, b) = good-past (unless 3 (InRange s k) ∷ unless 4 (LeafOf s k) ∷ []) a in (g, go b)
+  where
+    go : Answers (unless 3 (InRange s k) ∷ unless 4 (LeafOf s k) ∷ []) 0 → LeafOf s k
+    go (inl p) = absurd (omega (arith, p .1))
+    go (inr (r, inl p)) = absurd (omega (arith, p .1))
+    go (inr (r, inr (l, e))) = l
