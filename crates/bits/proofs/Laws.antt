@@ -13,7 +13,6 @@ use lib.Pow.{shr-lt, pow-pos, pow-add, shr-shr, high, low, mod-pow-add, mod-mod-
 use lib.Pow as P
 use Rattle.bits.specs.Bits.{digit, bit, run, field, withDigit, putBit, putField}
 use Rattle.bits.specs.Windows.{little}
-
 pub use Rattle.bits.specs.Bits.{Bytes}
 
 -- ---- digits of a number
