@@ -13,6 +13,7 @@ use lib.Pow.{shr-lt, pow-pos, pow-add, shr-shr, high, low, mod-pow-add, mod-mod-
 use lib.Pow as P
 use Rattle.bits.specs.Bits.{digit, bit, run, field, withDigit, putBit, putField}
 use Rattle.bits.specs.Windows.{little}
+pub use Rattle.bits.specs.Bits.{Bytes}
 
 -- ---- digits of a number
 
@@ -143,9 +144,6 @@ bit-put-other bs p q v hv h =
     (order (q % 8) (p % 8)))
 
 -- ---- every element is a byte
-
-abbrev pub Bytes : List ℕ → Type 0
-Bytes bs = (i : ℕ) → getD bs i 0 < 256
 
 -- a digit below m replaced, in a number of m digits
 pub with-lt : (n k m v : ℕ) → v < 2 → k < m → n < 2 ^ m → withDigit n k v < 2 ^ m
