@@ -13,6 +13,7 @@ use lib.Pow.{shr-lt, pow-pos, pow-add, shr-shr, high, low, mod-pow-add, mod-mod-
 use lib.Pow as P
 use Rattle.bits.specs.Bits.{digit, bit, run, field, withDigit, putBit, putField}
 use Rattle.bits.specs.Windows.{little}
+pub use Rattle.bits.specs.Bits.{Bytes}
 
 -- ---- digits of a number
 
@@ -144,9 +145,6 @@ bit-put-other bs p q v hv h =
 
 -- ---- every element is a byte
 
-abbrev pub Bytes : List ℕ → Type 0
-Bytes bs = (i : ℕ) → getD bs i 0 < 256
-
 -- a digit below m replaced, in a number of m digits
 pub with-lt : (n k m v : ℕ) → v < 2 → k < m → n < 2 ^ m → withDigit n k v < 2 ^ m
 with-lt n k m v hv h hn =
@@ -178,6 +176,12 @@ bit-at bs i k h =
 
 byte-run : (n : ℕ) → n < 256 → n ≡ run (digit n) 0 8
 byte-run n h = sym (run-digits n 0 8 ∙ omega arith)
+
+-- a byte is the field of its eight bits
+pub field-byte : (bs : List ℕ) (i : ℕ) → getD bs i 0 < 256 → field bs (8 * i) 8 ≡ getD bs i 0
+field-byte bs i h =
+    run-ext (bit bs) (digit (getD bs i 0)) (8 * i) 0 8 (λ k l. bit-at bs i k l ∙ ap (digit (getD bs i 0)) (omega arith))
+    ∙ sym (byte-run (getD bs i 0) h)
 
 pub ext-bits : (xs ys : List ℕ) → Bytes xs → Bytes ys → length xs ≡ length ys → ((p : ℕ) → p / 8 < length xs → bit xs p ≡ bit ys p) → xs ≡ ys
 ext-bits xs ys hx hy e h =

@@ -109,6 +109,14 @@ module _ (bs : List ℕ) (hb : Bytes bs) (s w v i n : ℕ) (hv : v < 2 ^ w) (lo 
       (λ a. little-out bs i n _ p (inl a) ∙ sym (bit-out bs s w v p (inl (omega arith))))
       (le-or-lt (8 * i) p))
 
+-- to store a byte is to put the field of its eight bits
+pub set-byte : (bs : List ℕ) → Bytes bs → (i v : ℕ) → i < length bs → v < 256 → set bs i v ≡ putField bs (8 * i) 8 v
+unfolding putLittle
+set-byte bs hb i v hi hv =
+    let e : withField (little bs i 1) (8 * i - 8 * i) 8 v % 256 ≡ v =
+    ap (λ (x : ℕ). withField (little bs i 1) x 8 v % 256) {x = 8 * i - 8 * i} {y = 0} (omega arith) ∙ omega arith in
+    ap (set bs i) (sym e) ∙ put-window bs hb (8 * i) 8 v i 1 hv (omega arith) (omega arith) (omega arith)
+
 -- the machine's shifts lose nothing
 module _ (n k w v : ℕ) (hn : n < 2 ^ 32) (hk : k < 32) (hw : k + w ≤ 32) (hv : v < 2 ^ w) where
   back : n / 2 ^ k / 2 ^ w * 2 ^ w % 2 ^ 32 ≡ n / 2 ^ k / 2 ^ w * 2 ^ w

@@ -1,7 +1,11 @@
 -- Bits and fields of bits in a list of bytes, by "Panel bytes".
 use mathlib.Core.List.{List}
-use Prim.Native.Nat.{ℕ, zero, suc, _+_, _*_, _/_, _%_, _^_}
+use Prim.Native.Nat.{ℕ, zero, suc, _+_, _*_, _/_, _%_, _^_, _<_}
 use lib.ListN.{getD, set}
+
+-- every element is a byte
+abbrev pub Bytes : List ℕ → Type 0
+Bytes bs = (i : ℕ) → getD bs i 0 < 256
 
 -- digit k of the number n, the lowest first
 abbrev pub digit : ℕ → ℕ → ℕ

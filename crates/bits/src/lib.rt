@@ -53,6 +53,14 @@ fn place(len: usize, s: usize) -> usize
     if i < m { i } else { m }
 }
 
+// Byte i: the field of its eight bits.
+pub fn get_byte(bytes: &[u8], i: usize) -> u32
+    requires { ⌜ i < length (now bytes) ⌝ }
+    ensures { λ r. ⌜ r ≡ field (now (bytes .entry)) (8 * i) 8 ⌝ }
+{
+    byte(bytes, i)
+}
+
 // The number of w bits from bit s on, lowest first.
 pub fn get_field(bytes: &[u8], s: usize, w: usize) -> u32
     requires { ⌜ (4 ≤ length (now bytes)) × (s + w ≤ 8 * length (now bytes)) × (0 < w) × (w ≤ 25) ⌝ }
@@ -62,11 +70,19 @@ pub fn get_field(bytes: &[u8], s: usize, w: usize) -> u32
     (window(bytes, i) >> (s - 8 * i)) % (1u32 << w)
 }
 
-fn put_byte(bytes: &mut [u8], i: usize, v: u32)
+fn store_byte(bytes: &mut [u8], i: usize, v: u32)
     requires { ⌜ (i < length (now bytes)) × (v < 256) ⌝ }
     ensures { λ _. ⌜ now (bytes .exit) ≡ set (now (bytes .entry)) i v ⌝ }
 {
     bytes[i] = v as u8;
+}
+
+// Sets byte i to v: the field of its eight bits.
+pub fn put_byte(bytes: &mut [u8], i: usize, v: u32)
+    requires { ⌜ (i < length (now bytes)) × (v < 256) ⌝ }
+    ensures { λ _. ⌜ now (bytes .exit) ≡ putField (now (bytes .entry)) (8 * i) 8 v ⌝ }
+{
+    store_byte(bytes, i, v);
 }
 
 // Stores a number as the four bytes from i on, lowest first.
@@ -74,10 +90,10 @@ fn store_window(bytes: &mut [u8], i: usize, n: u32)
     requires { ⌜ i + 4 ≤ length (now bytes) ⌝ }
     ensures { λ _. ⌜ now (bytes .exit) ≡ putLittle (now (bytes .entry)) i 4 n ⌝ }
 {
-    put_byte(bytes, i, n % 256);
-    put_byte(bytes, i + 1, n / 256 % 256);
-    put_byte(bytes, i + 2, n / 256 / 256 % 256);
-    put_byte(bytes, i + 3, n / 256 / 256 / 256 % 256);
+    store_byte(bytes, i, n % 256);
+    store_byte(bytes, i + 1, n / 256 % 256);
+    store_byte(bytes, i + 2, n / 256 / 256 % 256);
+    store_byte(bytes, i + 3, n / 256 / 256 / 256 % 256);
 }
 
 // Sets the w bits from bit s on to the number v, lowest first.

@@ -1,12 +1,11 @@
 pub mod Slots
 pub mod Rooms
-pub mod Places
+pub mod Rows
+pub mod Pairs
+pub mod Lowest
 pub mod Steps
 pub mod Leaves
 pub mod Unique
-pub mod Sevens
-pub mod Rows
-pub mod Lowest
 pub mod Heads
 pub mod Ranks
 pub mod Counts

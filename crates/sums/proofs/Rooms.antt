@@ -1,15 +1,15 @@
 -- Where the words have room, every place that the code computes fits the machine's numbers and lies inside.
-use mathlib.Core.Path.{_≡_, sym, ap, _∙_}
+use mathlib.Core.Path.{_≡_, ap, _∙_}
 use mathlib.Core.List.{List}
 use Prim.Native.Nat.{ℕ, _+_, _-_, _*_, _%_, _^_, _≤_, _<_}
-use native.Mathlib.Nat.{mod-eq-of-lt}
 use native.Mathlib.Omega.{arith}
 use lib.ListN.{length}
 use lib.Pow.{pow-mono, pow-add}
+use Rattle.bits.proofs.Laws.{one-shl}
 use Rattle.nodes.specs.Depth.{depthOf}
 use Rattle.nodes.proofs.Depths.{pow-next, depth-le}
 use Rattle.sums.specs.Words.{width, Room}
-use Rattle.sums.proofs.Slots.{from, row-from, in-panel}
+use Rattle.sums.proofs.Slots.{from, in-panel}
 
 -- the leaf bits fill whole bytes
 pub whole-bytes : (D : ℕ) → 3 ≤ D → 2 ^ D ≡ 8 * 2 ^ (D - 3)
@@ -60,8 +60,19 @@ placed {D} {k} {d} {bs} r hk e =
       bytes = room-bytes r;
     }
 
--- the code's shift to a row's start loses nothing
-pub row-shift : {D d w : ℕ} {bs : List ℕ} → Room D bs → d ≤ D → w ≡ D - d + 3 → w * 2 ^ d % 2 ^ 64 ≡ w * 2 ^ d
-row-shift {D} {d} {w} r h e =
-    let s : w * 2 ^ d ≡ from D (2 ^ d) = ap (λ (x : ℕ). x * 2 ^ d) e ∙ sym (row-from D d h) in
-    mod-eq-of-lt (omega (arith, bounds r, in-panel D (2 ^ d) (omega (arith, pow-mono {i = d} {j = D} h, bounds r))))
+-- the leaf bits are m bytes, the last quarter of those that the words fill
+pub record Quarter (D len m : ℕ) : Type 0 where
+  pub is : m ≡ 2 ^ (D - 3)
+  pub some : 0 < m
+  pub small : m ≤ 16384
+  pub inside : 4 * m ≤ len
+
+pub quarter : {D : ℕ} {bs : List ℕ} → Room D bs → Quarter D (length bs) (1 * 2 ^ (D - 3) % 2 ^ 64)
+quarter {D} r =
+    let e = one-shl (D - 3) 64 (omega arith) in
+    record {
+      is = e;
+      some = omega (arith, bounds r);
+      small = omega (arith, bounds r);
+      inside = omega (arith, bounds r);
+    }

@@ -35,13 +35,12 @@ from D k = start D (depthOf k) k
 abbrev pub wide : ℕ → ℕ → ℕ
 wide D k = width D (depthOf k)
 
--- where row d starts
-pub row-from : (D d : ℕ) → d ≤ D → from D (2 ^ d) ≡ (D - d + 3) * 2 ^ d
-row-from D d h =
+-- where the row of words of w bits starts
+pub row-from : (D d w : ℕ) → d + w ≡ D + 1 → from D (2 ^ d) ≡ 2 ^ d * (w + 2)
+row-from D d w h =
     let o : depthOf (2 ^ d) ≡ d = depth-is {d = d} {n = 2 ^ d} (at-from (le-refl (2 ^ d)) (omega (arith, pow-next d, pow-pos d))) in
-    let w : D + 1 - d ≡ D - d + 1 = omega arith in
-    ap (λ (x : ℕ). start D x (2 ^ d)) o
-    ∙ omega (arith, ap (λ (x : ℕ). 2 ^ d * x) w, mul-add (2 ^ d) (D - d) 1, add-mul (D - d) 3 (2 ^ d), mul-comm (2 ^ d) (D - d), pow-next d)
+    let e : D + 1 - d ≡ w = omega arith in
+    ap (λ (x : ℕ). start D x (2 ^ d)) o ∙ ap (λ (x : ℕ). 2 ^ (d + 1) + 2 ^ d * x) e ∙ omega (arith, mul-add (2 ^ d) w 2, pow-next d)
 
 pub packed : (D k : ℕ) → k < 2 ^ (D + 1) → from D (k + 1) ≡ from D k + wide D k
 packed D zero h =
@@ -124,7 +123,7 @@ from-one D = ap (λ (d : ℕ). start D d 1) {x = depthOf 1} {y = 0} (depth-is at
 
 -- the leaf bits stand at the end
 pub from-leaf : (D : ℕ) → from D (2 ^ D) ≡ 3 * 2 ^ D
-from-leaf D = row-from D D (le-refl D) ∙ ap (λ (x : ℕ). (x + 3) * 2 ^ D) {x = D - D} {y = 0} (omega arith)
+from-leaf D = omega (arith, row-from D D 1 (omega arith))
 
 -- the word that holds bit p
 pub holder : (D p n : ℕ) → n ≤ 2 ^ (D + 1) → 2 ≤ p → p < from D n → (k : ℕ) × (k < 2 ^ (D + 1)) × (from D k ≤ p) × (p < from D k + wide D k)

@@ -10,7 +10,7 @@ use Rattle.nodes.specs.Depth.{depthOf}
 use Rattle.nodes.proofs.Depths.{pow-next, depth-left, depth-right, depth-le}
 use Rattle.sums.specs.Words.{width, word, putWord}
 use Rattle.sums.specs.Sums.{Summed}
-use Rattle.sums.specs.Made.{Made}
+use Rattle.sums.specs.Rows.{Made}
 use Rattle.sums.proofs.Slots.{wide, packed, from-mono, from-one, from-leaf, word-lt, word-same, length-putWord, bit-put-word, word-put-same, word-put-other}
 
 abbrev pub sumOf : ℕ → List ℕ → ℕ → ℕ
@@ -57,16 +57,16 @@ module _ {D m k : ℕ} {xs ys : List ℕ} (one : 1 ≤ m) (low : m ≤ k) (row :
   }
 
 -- a part made after the part behind it
-module _ {D m n : ℕ} {xs ys zs : List ℕ} (one : 1 ≤ n) (low : m ≤ n) (top : n ≤ 2 ^ D) (s : Made D n (2 ^ D) xs ys) (t : Made D m n ys zs) where
+module _ {D m n o : ℕ} {xs ys zs : List ℕ} (one : 1 ≤ n) (low : m ≤ n) (mid : n ≤ o) (top : o ≤ 2 ^ D) (s : Made D n o xs ys) (t : Made D m n ys zs) where
   -- the words of the part behind are left
   left : (j : ℕ) → n ≤ j → j < 2 ^ (D + 1) → word D zs j ≡ word D ys j
   left j l h = word-same D j ys zs (λ p a b. t .same p (inr (omega (arith, from-mono D n j l (omega arith)))))
 
-  pub made-join : Made D m (2 ^ D) xs zs
+  pub made-join : Made D m o xs zs
   made-join = record {
     long = t .long ∙ s .long;
-    same = λ p o. t .same p (⊎-elim (λ l. inl l) (λ l. inr (omega (arith, from-mono D n (2 ^ D) top (omega (arith, pow-next D))))) o)
-        ∙ s .same p (⊎-elim (λ l. inl (omega (arith, from-mono D m n low (omega (arith, pow-next D))))) (λ l. inr l) o);
+    same = λ p e. t .same p (⊎-elim (λ l. inl l) (λ l. inr (omega (arith, from-mono D n o mid (omega (arith, pow-next D))))) e)
+        ∙ s .same p (⊎-elim (λ l. inl (omega (arith, from-mono D m n low (omega (arith, pow-next D))))) (λ l. inr l) e);
     sums = λ j l h. ⊎-elim (λ b. left j b (omega (arith, pow-next D)) ∙ s .sums j b h
         ∙ sym (ap₂ (λ (x y : ℕ). x + y) (left (2 * j) (omega arith) (omega (arith, pow-next D))) (left (2 * j + 1) (omega arith) (omega (arith, pow-next D)))))
         (λ b. t .sums j l b) (le-or-lt n j);

@@ -1,55 +1,26 @@
-// Testing all sums: the three lowest rows eight leaf bits at a time, the others word by word, both by running places.
-ghost use Prim.Native.Nat.{_+_, _-_, _*_, _^_, _≤_, _<_};
+// Testing all sums: the three lowest rows eight leaf bits at a time, the others word by word.
+ghost use Prim.Native.Nat.{_+_, _-_, _^_, _≤_, _<_};
 ghost use Rattle.nodes.specs.Table.{Says};
 ghost use Rattle.sums.specs.Words.{Room};
 ghost use Rattle.sums.specs.Sums.{SumsRight, Right};
-ghost use Rattle.sums.specs.Rows.{SumsBetween, Fits, Seven};
+ghost use Rattle.sums.specs.Rows.{SumsBetween};
 
-// Seven sums at once: x holds eight leaf bits, y the four words above them, z the two above those, u the one on top.
-fn seven(x: u32, y: u32, z: u32, u: u32) -> bool
-    requires { ⌜ Fits x y z u ⌝ }
-    ensures { λ r. ⌜ Says (Seven x y z u) r ⌝ }
-{
-    if y
-        != (x % 2 + x / 2 % 2)
-            + 4 * (x / 4 % 2 + x / 8 % 2)
-            + 16 * (x / 16 % 2 + x / 32 % 2)
-            + 64 * (x / 64 % 2 + x / 128 % 2)
-    {
-        return false;
-    }
-    if z != (y % 4 + y / 4 % 4) + 8 * (y / 16 % 4 + y / 64 % 4) {
-        return false;
-    }
-    u == z % 8 + z / 8 % 8
-}
-
-// Rows deep - 3 to deep - 1: word k starts at bit a, word 2k at bit b, word 4k at bit c, word 8k at bit d.
+// Rows deep - 3 to deep - 1. The leaf bits are the last m bytes of 4 m, and the row above them fills the m bytes before.
 fn low_rows(bytes: &[u8], deep: usize) -> bool
     requires { ⌜ Room deep (now bytes) ⌝ }
     ensures { λ r. ⌜ Says (SumsBetween deep (now (bytes .entry)) (2 ^ (deep - 3)) (2 ^ deep)) r ⌝ }
 {
     let m: usize = 1 << (deep - 3);
-    let last: usize = 2 * m - 1;
-    let mut k: usize = m;
-    let mut a: usize = 6 * m;
-    let mut b: usize = 10 * m;
-    let mut c: usize = 16 * m;
-    let mut d: usize = 24 * m;
-    while k <= last {
-        let u = bits::get_field(bytes, a, 4);
-        let z = bits::get_field(bytes, b, 6);
-        let y = bits::get_field(bytes, c, 8);
-        let x = bits::get_field(bytes, d, 8);
-        if seven(x, y, z, u) {
-            a += 4;
-            b += 6;
-            c += 8;
-            d += 8;
-            k += 1;
-        } else {
+    let mut i: usize = 0;
+    while i < m {
+        let s = super::sevens::seven(bits::get_byte(bytes, 3 * m + i));
+        let y = bits::get_byte(bytes, 2 * m + i);
+        let z = bits::get_field(bytes, 10 * m + 6 * i, 6);
+        let u = bits::get_field(bytes, 6 * m + 4 * i, 4);
+        if s != y + 256 * z + 16384 * u {
             return false;
         }
+        i += 1;
     }
     true
 }
@@ -61,20 +32,19 @@ fn row(bytes: &[u8], deep: usize, d: usize) -> bool
 {
     let w = deep - d;
     let first: usize = 1 << d;
-    let last: usize = 2 * first - 1;
+    let end: usize = 2 * first;
     let mut k: usize = first;
     let mut p: usize = first * (w + 3);
     let mut c: usize = 2 * (first * (w + 2));
-    while k <= last {
+    while k < end {
         let x = bits::get_field(bytes, c, w);
         let y = bits::get_field(bytes, c + w, w);
-        let v = bits::get_field(bytes, p, w + 1);
-        if v != x + y {
+        if bits::get_field(bytes, p, w + 1) != x + y {
             return false;
         }
+        k += 1;
         p += w + 1;
         c += 2 * w;
-        k += 1;
     }
     true
 }

@@ -7,26 +7,26 @@ use borrow.Author.Needs.{needs}
 use Rattle.bits.proofs.store_window.Statement.{statement}
 use Rattle.bits.proofs.store_window.Tie as tie
 
-put-byte-requires : tie.Need-put-byte-requires
-put-byte-requires c κs = search needs
+store-byte-requires : tie.Need-store-byte-requires
+store-byte-requires c κs = search needs
 
-add-put-byte : tie.Need-add-put-byte
-add-put-byte c = search needs
+add-store-byte : tie.Need-add-store-byte
+add-store-byte c = search needs
 
-put-byte-requires-2 : tie.Need-put-byte-requires-2
-put-byte-requires-2 c κs = search needs
+store-byte-requires-2 : tie.Need-store-byte-requires-2
+store-byte-requires-2 c κs = search needs
 
-add-put-byte-2 : tie.Need-add-put-byte-2
-add-put-byte-2 c = search needs
+add-store-byte-2 : tie.Need-add-store-byte-2
+add-store-byte-2 c = search needs
 
-put-byte-requires-3 : tie.Need-put-byte-requires-3
-put-byte-requires-3 c κs = search needs
+store-byte-requires-3 : tie.Need-store-byte-requires-3
+store-byte-requires-3 c κs = search needs
 
-add-put-byte-3 : tie.Need-add-put-byte-3
-add-put-byte-3 c = search needs
+add-store-byte-3 : tie.Need-add-store-byte-3
+add-store-byte-3 c = search needs
 
-put-byte-requires-4 : tie.Need-put-byte-requires-4
-put-byte-requires-4 c κs = search needs
+store-byte-requires-4 : tie.Need-store-byte-requires-4
+store-byte-requires-4 c κs = search needs
 
 same-length : tie.Need-same-length
 same-length c = search needs
@@ -43,12 +43,12 @@ pub store-window-spec : {M : Type 1} → statement M
 store-window-spec =
     tie.close
     (tie.spec
-    put-byte-requires
-    add-put-byte
-    put-byte-requires-2
-    add-put-byte-2
-    put-byte-requires-3
-    add-put-byte-3
-    put-byte-requires-4
+    store-byte-requires
+    add-store-byte
+    store-byte-requires-2
+    add-store-byte-2
+    store-byte-requires-3
+    add-store-byte-3
+    store-byte-requires-4
     same-length
     returns)

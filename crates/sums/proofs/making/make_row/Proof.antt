@@ -1,106 +1,100 @@
 -- Each turn makes one word more of the row the sum of its children's words, which stand in the next row and do not change.
-use mathlib.Core.Path.{_≡_, ap₂, _∙_, subst, subst⁻¹}
-use mathlib.Core.List.{List}
+use mathlib.Core.Path.{_≡_, ap, ap₂, _∙_, subst, subst⁻¹}
 use Prim.Native.Nat.{ℕ, _+_, _-_, _*_, _%_, _^_}
 use native.Mathlib.Omega.{arith}
-use lib.Pow.{pow-mono, pow-pos}
-use Rattle.nodes.proofs.Depths.{At, at-from, pow-next}
-use Rattle.sums.specs.Words.{Room, putWord}
-use Rattle.sums.specs.Made.{Made}
-use Rattle.sums.proofs.Rooms.{room-same, row-shift, bounds}
-use Rattle.sums.proofs.Places.{Places, places-first, places-next, left-is, right-is, put-own, under, Reach, reach}
+use lib.Pow.{pow-pos}
+use Rattle.bits.proofs.Laws.{one-shl}
+use Rattle.nodes.proofs.Depths.{pow-next}
+use Rattle.sums.specs.Words.{putWord}
+use Rattle.sums.specs.Rows.{Made}
+use Rattle.sums.proofs.Rooms.{room-same}
+use Rattle.sums.proofs.Rows.{Running, Here, running-first, running-next, here, here-first}
 use Rattle.sums.proofs.Steps.{sumOf, made-none, made-step}
 use Rattle.sums.proofs.making.make_row.Statement.{statement}
 use Rattle.sums.proofs.making.make_row.Tie as tie
 
 abbrev Inv-loop : tie.InvT-loop
-Inv-loop bytes₀ deep d w end k₀ p₀ c₀ bytes k p c =
-    (end ≡ 2 ^ (d + 1)) × Places deep d k p c × Made deep (2 ^ d) k bytes₀ bytes
+Inv-loop bytes₀ deep d w first end k₀ p₀ c₀ bytes k p c = (first ≡ 2 ^ d) × Running deep d k p c × Made deep (2 ^ d) k bytes₀ bytes
 
 abbrev μ-loop : tie.MeasureT-loop
-μ-loop bytes₀ deep d w end k₀ p₀ c₀ bytes k p c = end - k
+μ-loop bytes₀ deep d w first end k₀ p₀ c₀ bytes k p c = end - k
 
-record Here (D d k p c : ℕ) (bs : List ℕ) : Type 0 where
-  room : Room D bs
-  at : At d k
-  reach : Reach D d p c bs
+shifted : (c : tie.After-slice-known Inv-loop μ-loop) → 1 * 2 ^ c .before .args .d % 2 ^ 64 ≡ 2 ^ c .before .args .d
+shifted c = one-shl (c .before .args .d) 64 (omega arith)
 
-here : (c : tie.In-loop Inv-loop μ-loop)
-    → let a = c .before .before .before .args in let l = c .before .loop in Here (a .deep) (a .d) (l .k) (l .p) (l .c) (l .bytes)
-here c =
+-- a turn's places
+known : (c : tie.In-loop Inv-loop μ-loop)
+    → let a = c .before .before .before .args in let l = c .before .loop in Here (a .deep) (a .deep - a .d) (l .bytes) (l .k) (l .p) (l .c)
+known c =
     let s = c .before .before .before in
     let l = c .before .loop in
-    let r : Room (s .args .deep) (l .bytes) = room-same (l .inv .2 .long) (s .pre .0) in
-    let a = at-from {d = s .args .d} {n = l .k} (l .inv .1 .low) (omega arith) in
-    record { room = r; at = a; reach = reach r (s .pre .1) a (l .inv .1) }
+    here (s .pre .1) (l .inv .1) (omega arith) (room-same (l .inv .2 .long) (s .pre .0))
 
 sub-w : tie.Need-sub-w Inv-loop μ-loop
 sub-w c = omega arith
 
-shl-end : tie.Need-shl-end Inv-loop μ-loop
-shl-end c = omega arith
+shl-first : tie.Need-shl-first Inv-loop μ-loop
+shl-first c = omega arith
 
-shl-k : tie.Need-shl-k Inv-loop μ-loop
-shl-k c = omega arith
+mul-end : tie.Need-mul-end Inv-loop μ-loop
+mul-end c = omega (arith, shifted c, here-first (c .before .pre .1) (c .before .pre .0))
 
 add-p : tie.Need-add-p Inv-loop μ-loop
 add-p c = omega arith
 
-shl-p : tie.Need-shl-p Inv-loop μ-loop
-shl-p c = omega arith
+mul-p : tie.Need-mul-p Inv-loop μ-loop
+mul-p c = omega (arith, ap (λ (m : ℕ). m * (c .before .args .deep - c .before .args .d + 3)) (shifted c), here-first (c .before .pre .1) (c .before .pre .0))
 
 add-c : tie.Need-add-c Inv-loop μ-loop
 add-c c = omega arith
 
-add-c-2 : tie.Need-add-c-2 Inv-loop μ-loop
-add-c-2 c = omega arith
+mul-c : tie.Need-mul-c Inv-loop μ-loop
+mul-c c = omega (arith, ap (λ (m : ℕ). m * (c .before .args .deep - c .before .args .d + 2)) (shifted c), here-first (c .before .pre .1) (c .before .pre .0))
 
-shl-c : tie.Need-shl-c Inv-loop μ-loop
-shl-c c = omega arith
+mul-c-2 : tie.Need-mul-c-2 Inv-loop μ-loop
+mul-c-2 c = omega (arith, ap (λ (m : ℕ). m * (c .before .args .deep - c .before .args .d + 2)) (shifted c), here-first (c .before .pre .1) (c .before .pre .0))
 
 loop-holds : tie.Need-loop-holds Inv-loop μ-loop
 loop-holds c =
     let a = c .before .args in
-    let r = c .before .pre .0 in
-    let m = pow-mono {i = a .d} {j = a .deep} (omega arith) in
-    let e : 1 * 2 ^ a .d % 2 ^ 64 ≡ 2 ^ a .d = omega (arith, bounds r) in (
-      omega (arith, bounds r, pow-next (a .d)),
-      places-first (c .before .pre .1) e (row-shift r (omega arith) (omega arith)) (row-shift r (omega arith) (omega arith)),
-      subst⁻¹ (λ (x : ℕ). Made (a .deep) (2 ^ a .d) x (a .bytes .now) (a .bytes .now)) e (made-none (a .deep) (2 ^ a .d) (a .bytes .now)),
+    let w = a .deep - a .d in (
+      shifted c,
+      subst⁻¹ (λ (m : ℕ). Running (a .deep) (a .d) m (m * (w + 3)) (2 * (m * (w + 2)))) (shifted c) (running-first (c .before .pre .1)),
+      subst⁻¹ (λ (m : ℕ). Made (a .deep) (2 ^ a .d) m (a .bytes .now) (a .bytes .now)) (shifted c) (made-none (a .deep) (2 ^ a .d) (a .bytes .now)),
     )
 
 get-field-requires : tie.Need-get-field-requires Inv-loop μ-loop
-get-field-requires c κs = omega (arith, here (c .before) .reach)
+get-field-requires c κs = omega (arith, known (c .before))
 
 add-get-field : tie.Need-add-get-field Inv-loop μ-loop
-add-get-field c = omega (arith, here (c .before .before .before) .reach)
+add-get-field c = omega (arith, known (c .before .before .before))
 
 get-field-requires-2 : tie.Need-get-field-requires-2 Inv-loop μ-loop
-get-field-requires-2 c κs = omega (arith, here (c .before .before .before) .reach)
+get-field-requires-2 c κs = omega (arith, known (c .before .before .before))
 
 add-put-field : tie.Need-add-put-field Inv-loop μ-loop
 add-put-field c = omega arith
 
 add-put-field-2 : tie.Need-add-put-field-2 Inv-loop μ-loop
-add-put-field-2 c = omega (arith, here (c .before .before .before .before .before) .reach)
+add-put-field-2 c = omega (arith, known (c .before .before .before .before .before))
 
 put-field-requires : tie.Need-put-field-requires Inv-loop μ-loop
-put-field-requires c κs = omega (arith, here (c .before .before .before .before .before) .reach)
+put-field-requires c κs = omega (arith, known (c .before .before .before .before .before))
 
 add-k : tie.Need-add-k Inv-loop μ-loop
-add-k c = omega arith
+add-k c = omega (arith, known (c .before .before .before .before .before .before .before .before))
 
 add-p-2 : tie.Need-add-p-2 Inv-loop μ-loop
 add-p-2 c = omega arith
 
 add-p-3 : tie.Need-add-p-3 Inv-loop μ-loop
-add-p-3 c = omega (arith, here (c .before .before .before .before .before .before .before .before) .reach)
+add-p-3 c = omega (arith, known (c .before .before .before .before .before .before .before .before))
 
-mul-c : tie.Need-mul-c Inv-loop μ-loop
-mul-c c = omega arith
+mul-c-3 : tie.Need-mul-c-3 Inv-loop μ-loop
+mul-c-3 c = omega arith
 
-add-c-3 : tie.Need-add-c-3 Inv-loop μ-loop
-add-c-3 c = omega (arith, here (c .before .before .before .before .before .before .before .before) .reach)
+add-c-2 : tie.Need-add-c-2 Inv-loop μ-loop
+add-c-2 c = omega (arith, known (c .before .before .before .before .before .before .before .before))
 
 loop-less : tie.Need-loop-less Inv-loop μ-loop
 loop-less c = omega arith
@@ -110,18 +104,16 @@ loop-again c =
     let f = c .before .before in
     let i = f .before .before .before .before .before .before in
     let s = i .before .before .before in
+    let a = s .args in
     let l = i .before .loop in
-    let h = here i in
-    let D = s .args .deep in
-    let bs = l .bytes in
-    let x = f .before .before .before .before .get-field .ensures ∙ left-is (s .pre .1) (h .at) (l .inv .1) bs in
-    let y = f .before .before .get-field2 .ensures ∙ right-is (s .pre .1) (h .at) (l .inv .1) bs in
-    let e : f .put-field .last .0 ≡ putWord D bs (l .k) (sumOf D bs (l .k)) =
-    f .put-field .ensures ∙ put-own (s .pre .1) (h .at) (l .inv .1) bs _ ∙ ap₂ (λ (x y : ℕ). putWord D bs (l .k) (x + y)) x y in (
+    let h = known i in
+    let e : f .put-field .last .0 ≡ putWord (a .deep) (l .bytes) (l .k) (sumOf (a .deep) (l .bytes) (l .k)) =
+    f .put-field .ensures ∙ h .own-put _
+    ∙ ap₂ (λ (x y : ℕ). putWord (a .deep) (l .bytes) (l .k) (x + y)) (f .before .before .before .before .get-field .ensures ∙ h .left-word) (f .before .before .get-field2 .ensures ∙ h .right-word) in (
       l .inv .0,
-      places-next (s .pre .1) (h .at) (l .inv .1),
-      subst⁻¹ (Made D (2 ^ s .args .d) (l .k + 1) (s .args .bytes .now)) e
-          (made-step (pow-pos (s .args .d)) (h .at .low) (omega (arith, h .at .high)) (under D (s .args .d) (l .k) (s .pre .1) (h .at)) (h .room .long) (l .inv .2)),
+      running-next (s .pre .1) (l .inv .1) (omega arith),
+      subst⁻¹ (Made (a .deep) (2 ^ a .d) (l .k + 1) (a .bytes .now)) e
+          (made-step (pow-pos (a .d)) (l .inv .1 .low) (omega arith) (h .node) (omega arith) (l .inv .2)),
     )
 
 same-length : tie.Need-same-length Inv-loop μ-loop
@@ -129,10 +121,10 @@ same-length c = c .before .loop .inv .2 .long
 
 returns : tie.Need-returns Inv-loop μ-loop
 returns c =
-    let s = c .before .before .before in
+    let a = c .before .before .before .args in
     let l = c .before .loop in
-    let e : l .k ≡ 2 ^ (s .args .d + 1) = omega (arith, l .inv .1 .high) in
-    subst (λ (x : ℕ). Made (s .args .deep) (2 ^ s .args .d) x (s .args .bytes .now) (l .bytes)) e (l .inv .2)
+    let e : l .k ≡ 2 ^ (a .d + 1) = omega (arith, pow-next (a .d)) in
+    subst (λ (x : ℕ). Made (a .deep) (2 ^ a .d) x (a .bytes .now) (l .bytes)) e (l .inv .2)
 
 pub make-row-spec : {M : Type 1} → statement M
 make-row-spec =
@@ -141,13 +133,13 @@ make-row-spec =
     Inv-loop
     μ-loop
     sub-w
-    shl-end
-    shl-k
+    shl-first
+    mul-end
     add-p
-    shl-p
+    mul-p
     add-c
-    add-c-2
-    shl-c
+    mul-c
+    mul-c-2
     loop-holds
     get-field-requires
     add-get-field
@@ -158,8 +150,8 @@ make-row-spec =
     add-k
     add-p-2
     add-p-3
-    mul-c
-    add-c-3
+    mul-c-3
+    add-c-2
     loop-less
     loop-again
     same-length

@@ -4,7 +4,7 @@ use native.Mathlib.Omega.{arith}
 use borrow.Author.Needs.{needs}
 use Rattle.nodes.proofs.Tables.{says-no}
 use Rattle.sums.proofs.Heads.{head-inside, head-right, right-head}
-use Rattle.sums.proofs.Rows.{room-long}
+use Rattle.sums.proofs.Rooms.{room-bytes}
 use Rattle.sums.proofs.testing.all_right.Statement.{statement}
 use Rattle.sums.proofs.testing.all_right.Tie as tie
 
@@ -14,7 +14,7 @@ add-get-field c = search needs
 get-field-requires : tie.Need-get-field-requires
 get-field-requires c κs =
     let s = c .before in
-    (room-long (s .args .deep) (s .args .bytes .now) (s .pre), omega (arith, head-inside (s .args .deep) (s .args .bytes .now) (s .pre)), omega arith, omega arith)
+    (room-bytes (s .pre), omega (arith, head-inside (s .args .deep) (s .args .bytes .now) (s .pre)), omega arith, omega arith)
 
 cast-head : tie.Need-cast-head
 cast-head c = search needs

@@ -1,6 +1,5 @@
 -- The rows before row d are right, and row d ends where the next begins.
 use Prim.Native.Nat.{_+_, _-_, _^_, _≤_}
-use native.Mathlib.Nat.{le-refl}
 use native.Mathlib.Omega.{arith}
 use lib.Pow.{pow-mono, pow-pos}
 use Rattle.nodes.proofs.Tables.{says-yes, says-no}
@@ -31,7 +30,7 @@ loop-again : tie.Need-loop-again Inv-loop μ-loop
 loop-again c =
     let l = c .before .before .before .loop in
     let a = c .before .before .before .before .before .args in
-    (omega arith, sums-join (a .deep) (a .bytes .now) 1 (2 ^ l .d) (2 ^ (l .d + 1)) (2 ^ (l .d + 1)) (le-refl (2 ^ (l .d + 1))) (l .inv .1) (c .before .row .ensures .yes (c .if1 .taken)))
+    (omega arith, sums-join (a .deep) (a .bytes .now) 1 (2 ^ l .d) (2 ^ (l .d + 1)) (l .inv .1) (c .before .row .ensures .yes (c .if1 .taken)))
 
 returns : tie.Need-returns Inv-loop μ-loop
 returns c =

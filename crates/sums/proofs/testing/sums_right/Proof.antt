@@ -1,6 +1,5 @@
 -- The low rows begin where the high rows end.
 use Prim.Native.Nat.{_-_, _^_}
-use native.Mathlib.Nat.{le-refl}
 use native.Mathlib.Omega.{arith}
 use lib.Pow.{pow-mono, pow-pos}
 use borrow.Author.Needs.{needs}
@@ -23,7 +22,7 @@ returns c =
     let a = c .before .before .before .before .args in
     let D = a .deep in
     record {
-      yes = λ e. sums-join D (a .bytes .now) 1 (2 ^ (D - 3)) (2 ^ D) (2 ^ D) (le-refl (2 ^ D)) (c .high-rows .ensures .yes e) (c .before .before .low-rows .ensures .yes (c .before .if1 .taken));
+      yes = λ e. sums-join D (a .bytes .now) 1 (2 ^ (D - 3)) (2 ^ D) (c .high-rows .ensures .yes e) (c .before .before .low-rows .ensures .yes (c .before .if1 .taken));
       no = λ e s. c .high-rows .ensures .no e (λ k lo hi. s k lo (omega (arith, pow-mono {i = D - 3} {j = D} (omega arith))));
     }
 

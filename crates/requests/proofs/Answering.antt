@@ -1,0 +1,101 @@
+-- How each `return` of a record's call makes the outcome that `Called` names: the part that the code lends is the panel's.
+use mathlib.Core.Path.{_≡_, refl, sym, subst, subst₂}
+use mathlib.Core.Logic.{_≢_, inl}
+use mathlib.Core.List.{List, [], _++_}
+use Prim.Native.Nat.{ℕ, _≤_, _<_}
+use native.Mathlib.Omega.{arith}
+use lib.ListN.{length, take, drop}
+use Rattle.nodes.specs.Limits.{greatestDepth}
+use Rattle.nodes.specs.declared.refusals.Refusal.{Refusal}
+use Rattle.nodes.specs.declared.refusals.Refusal.the-variants.{WrongLength, NotGood, NoSuchNode, NotLeaf, AtGreatestDepth, AtDepthOne, LeavesMissing, NoSuchNumber, BadRecord}
+use Rattle.nodes.specs.declared.refusals.Answer.{Answer}
+use Rattle.nodes.specs.declared.refusals.Answer.the-variants.{Done, No}
+use Rattle.nodes.specs.Refusals.{refusalNumber, answerNumber}
+use Rattle.nodes.proofs.Refusing.{refusal-pos, arm-done, arm-no}
+use Rattle.nodes.proofs.Tables.{is-refused}
+use Rattle.panel.specs.Panels.{Fits, deepOf, Good}
+use Rattle.panel.specs.Calls.{Open, Split, Merge}
+use Rattle.requests.specs.Requests.{kind, number, Fine, sizeOf, panelIn, Called, Step}
+use Rattle.requests.specs.Requests.Called.{opened, refused, split, merge}
+use Rattle.requests.specs.Requests.Step.{call}
+use Rattle.requests.specs.Holding.{Holds}
+use Rattle.requests.proofs.Parts.{fits-size, none-right, inside, same-changed, held-fits, held-inside}
+
+-- ---- open
+
+-- the bytes fit no panel of the asked depth
+not-open : (k D : ℕ) (b : List ℕ) → (Fits (panelIn k b) k → ⊥) → Called k D b 0 1 D b
+not-open k D b f = refused {t = panelIn k b} (is-refused (λ e. omega arith) (inl (f, refl)) refl) (λ e. omega arith)
+
+pub too-deep : (k D : ℕ) (b : List ℕ) → greatestDepth < k → Called k D b 0 1 D b
+too-deep k D b h = not-open k D b (λ f. omega (arith, f .high))
+
+pub too-short : (k D : ℕ) (b : List ℕ) → length b < sizeOf k → Called k D b 0 1 D b
+too-short k D b h = not-open k D b (λ f. omega (arith, inside k b (fits-size f)))
+
+module _ (k D n : ℕ) (b t : List ℕ) (e : n ≡ sizeOf k) where
+  pub open-done : {a : Answer} → Open (take n b) k (answerNumber a) t → a ≡ Done → Called k D b 0 0 k (t ++ drop n b)
+  open-done p h =
+      let q = arm-done (λ m. Open (take n b) k m t) p h in
+      subst (λ x. Called k D b 0 0 k (t ++ drop x b)) (sym e) (opened (subst (λ x. Open (take x b) k 0 t) e q))
+
+  pub open-no : {a : Answer} {r : Refusal} → Open (take n b) k (answerNumber a) t → a ≡ No r → Called k D b 0 (refusalNumber r) D (t ++ drop n b)
+  open-no {r = r} p h =
+      let q = subst (λ x. Open (take x b) k (refusalNumber r) t) e (arm-no (λ m. Open (take n b) k m t) p h) in
+      let z = refusal-pos r in
+      subst (λ x. Called k D b 0 (refusalNumber r) D (t ++ drop x b)) (sym e)
+      (subst (Called k D b 0 (refusalNumber r) D) (sym (same-changed k b t (q .refused z))) (refused q z))
+
+-- ---- split and merge
+
+-- no panel is open, and no bytes have no right length
+module _ (k D : ℕ) (b : List ℕ) (e : D ≡ 0) where
+  pub none-split : Called k D b 1 1 D b
+  none-split =
+      subst (λ x. Called k x b 1 1 x b) (sym e)
+      (split {t = []} (is-refused (λ y. omega arith) (inl (none-right, refl)) refl))
+
+  pub none-merge : Called k D b 2 1 D b
+  none-merge =
+      subst (λ x. Called k x b 2 1 x b) (sym e)
+      (merge {t = []} (is-refused (λ y. omega arith) (inl (none-right, refl)) refl))
+
+module _ (k D n m : ℕ) (b t : List ℕ) (e : n ≡ sizeOf D) where
+  pub split-lent : Split (take n b) k m t → Called k D b 1 m D (t ++ drop n b)
+  split-lent p = subst (λ x. Split (take x b) k m t → Called k D b 1 m D (t ++ drop x b)) (sym e) split p
+
+  pub merge-lent : Merge (take n b) k m t → Called k D b 2 m D (t ++ drop n b)
+  merge-lent p = subst (λ x. Merge (take x b) k m t → Called k D b 2 m D (t ++ drop x b)) (sym e) merge p
+
+-- ---- what the judged calls ask of the part that is lent
+
+module _ {D : ℕ} {b : List ℕ} (h : Holds D b) (z : D ≢ 0) where
+  pub lent-small : D ≤ greatestDepth
+  lent-small = held-fits h z .high
+
+  pub lent-inside : (n : ℕ) → n ≡ sizeOf D → n ≤ length b
+  lent-inside n e = omega (arith, held-inside h z)
+
+  pub lent-good : (n : ℕ) → n ≡ sizeOf D → Good (take n b) × (D ≡ deepOf (take n b))
+  lent-good n e = subst (λ x. Good (take x b) × (D ≡ deepOf (take x b))) (sym e) (h .good z, h .deep z)
+
+-- ---- the record
+
+-- an answer's number is written as a byte
+pub answer-byte : (a : Answer) → answerNumber a < 256
+answer-byte Done = omega arith
+answer-byte (No r) = refusal-byte r
+  where
+    refusal-byte : (r : Refusal) → refusalNumber r < 256
+    refusal-byte WrongLength = omega arith
+    refusal-byte NotGood = omega arith
+    refusal-byte NoSuchNode = omega arith
+    refusal-byte NotLeaf = omega arith
+    refusal-byte AtGreatestDepth = omega arith
+    refusal-byte AtDepthOne = omega arith
+    refusal-byte LeavesMissing = omega arith
+    refusal-byte NoSuchNumber = omega arith
+    refusal-byte BadRecord = omega arith
+
+pub step-call : {r b u : List ℕ} {k D c n E : ℕ} → Fine r → k ≡ number r → c ≡ kind r → Called k D b c n E u → Step r D b n E u
+step-call {r} {b} {u} {D = D} {n = n} {E = E} f e h p = call f (subst₂ (λ x y. Called x D b y n E u) e h p)

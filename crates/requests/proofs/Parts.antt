@@ -1,0 +1,73 @@
+-- The parts of the lent lists that the code hands on: a record of the input, and the panel at the start of the buffer.
+use mathlib.Core.Path.{_≡_, refl, sym, ap, _∙_, subst}
+use mathlib.Core.Logic.{_≢_}
+use mathlib.Core.List.{List, [], _++_}
+use Prim.Native.Nat.{ℕ, zero, suc, _+_, _-_, _^_, _≤_, _<_, min}
+use native.Mathlib.Decide.{decLt}
+use native.Mathlib.Omega.{arith, min-cases}
+use lib.ListN.{length, getD, take, drop, length-take, length-drop, take-append-drop, List·getD-append, List·getD-eq-default}
+use lib.Seq.{take-all, take-length, take-at}
+use lib.Pow.{pow-pos}
+use Rattle.bits.specs.Bits.{Bytes}
+use Rattle.panel.specs.Panels.{Fits, deepOf, RightLength}
+use Rattle.requests.specs.Requests.{sizeOf, panelIn, changed}
+use Rattle.requests.specs.Holding.{Holds}
+
+-- ---- records
+
+pub take-min : (n : ℕ) (l : List ℕ) → take (min n (length l)) l ≡ take n l
+take-min n l =
+    min-cases n (length l) (take (min n (length l)) l ≡ take n l) (λ h e. ap (λ k. take k l) e)
+    (λ h e. ap (λ k. take k l) e ∙ take-length l ∙ sym (take-all n l h))
+
+-- the code's `&records[start..end]`
+pub record-part : (rs : List ℕ) (start end : ℕ) → end ≡ min (start + 8) (length rs) → take (end - start) (drop start rs) ≡ take 8 (drop start rs)
+record-part rs start end e =
+    let l : end - start ≡ min 8 (length (drop start rs)) = omega (arith, length-drop start rs) in
+    ap (λ k. take k (drop start rs)) l ∙ take-min 8 (drop start rs)
+
+-- ---- the panel at the start of the buffer
+
+pub size-is : (D : ℕ) → D ≢ 0 → 2 ^ (D - 1) ≡ sizeOf D
+size-is zero z = absurd (z refl)
+size-is (suc d) z = ap (λ x. 2 ^ x) (let e : suc d - 1 ≡ d = omega arith in e)
+
+-- bytes of a right length are as many as the depth says
+pub fits-size : {s : List ℕ} {D : ℕ} → Fits s D → length s ≡ sizeOf D
+fits-size {s} {D} f = f .long ∙ size-is D (λ z. omega (arith, f .low))
+
+-- no bytes have no right length
+pub none-right : RightLength [] → ⊥
+none-right f = omega (arith, f .long, pow-pos (deepOf [] - 1))
+
+module _ (D : ℕ) (b : List ℕ) where
+  -- a panel that has as many bytes as its depth says lies inside the buffer
+  pub inside : length (panelIn D b) ≡ sizeOf D → sizeOf D ≤ length b
+  inside e = omega (arith, length-take (sizeOf D) b)
+
+  -- what was put there is there
+  pub panel-changed : (t : List ℕ) → length t ≡ sizeOf D → panelIn D (changed D b t) ≡ t
+  panel-changed t e = take-at t (drop (sizeOf D) b) (sizeOf D) e
+
+  -- the same bytes put back change nothing
+  pub same-changed : (t : List ℕ) → t ≡ panelIn D b → changed D b t ≡ b
+  same-changed t e = ap (λ x. x ++ drop (sizeOf D) b) e ∙ take-append-drop (sizeOf D) b
+
+pub bytes-front : (xs ys : List ℕ) → Bytes (xs ++ ys) → Bytes xs
+bytes-front xs ys h i = go (decLt i (length xs))
+  where
+    go : Dec (i < length xs) → getD xs i 0 < 256
+    go (yes l) = subst (λ x. x < 256) (List·getD-append xs ys 0 i l) (h i)
+    go (no l) = let e = List·getD-eq-default xs 0 (let m : length xs ≤ i = omega arith in m) in omega arith
+
+-- ---- a buffer that holds a good panel
+
+module _ {D : ℕ} {b : List ℕ} (h : Holds D b) (z : D ≢ 0) where
+  pub held-fits : Fits (panelIn D b) D
+  held-fits = subst (Fits (panelIn D b)) (sym (h .deep z)) (h .good z .fits)
+
+  pub held-length : length (panelIn D b) ≡ sizeOf D
+  held-length = fits-size held-fits
+
+  pub held-inside : sizeOf D ≤ length b
+  held-inside = inside D b held-length

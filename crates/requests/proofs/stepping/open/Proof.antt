@@ -1,0 +1,64 @@
+-- The call is lent the bytes that a panel of the asked depth takes; where they are too few, or the depth too great, they fit none.
+use native.Mathlib.Omega.{arith}
+use lib.ListN.{length-take}
+use Rattle.requests.proofs.Answering.{too-deep, too-short, open-done, open-no}
+use borrow.Author.Needs.{needs}
+use Rattle.requests.proofs.stepping.open.Statement.{statement}
+use Rattle.requests.proofs.stepping.open.Tie as tie
+
+returns : tie.Need-returns
+returns c = too-deep _ _ _ (c .if1 .taken)
+
+size-requires : tie.Need-size-requires
+size-requires c κs = search needs
+
+returns-2 : tie.Need-returns-2
+returns-2 c = too-short _ _ _ (omega (arith, c .before .size .ensures))
+
+slice-relend-prefix-open : tie.Need-slice-relend-prefix-open
+slice-relend-prefix-open c = search needs
+
+slice-aggregate-open : tie.Need-slice-aggregate-open
+slice-aggregate-open c = omega (arith, length-take (c .before .before .size .result) (c .before .before .before .before .before .args .buffer .now))
+
+open-requires : tie.Need-open-requires
+open-requires c κs = search needs
+
+enum-told : tie.Need-enum-told
+enum-told c = search needs
+
+enum-known-answer : tie.Need-enum-known-answer
+enum-known-answer c = search needs
+
+same-length : tie.Need-same-length
+same-length c = search needs
+
+returns-3 : tie.Need-returns-3
+returns-3 c =
+    let o = c .before .before .before .before in
+    open-done _ _ _ _ _ (o .before .before .before .size .ensures) (o .«open» .ensures) (c .enum-told .given .1)
+
+same-length-2 : tie.Need-same-length-2
+same-length-2 c = search needs
+
+returns-4 : tie.Need-returns-4
+returns-4 c =
+    let o = c .before .before .before .before .before in
+    open-no _ _ _ _ _ (o .before .before .before .size .ensures) (o .«open» .ensures) (c .before .answer .given .1)
+
+pub open-spec : {M : Type 1} → statement M
+open-spec =
+    tie.close
+    (tie.spec
+    returns
+    size-requires
+    returns-2
+    slice-relend-prefix-open
+    slice-aggregate-open
+    open-requires
+    enum-told
+    enum-known-answer
+    same-length
+    returns-3
+    same-length-2
+    returns-4)

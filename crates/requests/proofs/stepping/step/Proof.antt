@@ -1,0 +1,83 @@
+-- Past the test of a bad record the kind picks the call, and each call has its own contract.
+use mathlib.Core.Path.{sym}
+use native.Mathlib.Omega.{arith}
+use Rattle.requests.specs.Requests.{Fine}
+use Rattle.requests.specs.Requests.Step.{bad}
+use Rattle.requests.proofs.Answering.{step-call}
+use borrow.Author.Needs.{needs}
+use Rattle.requests.proofs.stepping.step.Statement.{statement}
+use Rattle.requests.proofs.stepping.step.Tie as tie
+
+-- past the first test the record is fine
+is-fine : (c : tie.Then1) → Fine (c .before .before .before .before .args .request .now)
+is-fine c = c .before .fine .ensures .yes (c .if1 .taken)
+
+fine-requires : tie.Need-fine-requires
+fine-requires c κs = search needs
+
+number-of-requires : tie.Need-number-of-requires
+number-of-requires c κs = is-fine c .whole
+
+shared-slice-read-kind : tie.Need-shared-slice-read-kind
+shared-slice-read-kind c = omega (arith, is-fine (c .before .before) .whole)
+
+open-requires : tie.Need-open-requires
+open-requires c κs = search needs
+
+same-length : tie.Need-same-length
+same-length c = search needs
+
+returns : tie.Need-returns
+returns c =
+    let o = c .before .before in
+    let k = o .before .before in
+    let n = k .before .before in
+    step-call (is-fine (n .before)) (n .number-of .ensures) (sym (k .if2 .taken)) (o .«open» .ensures)
+
+split-requires : tie.Need-split-requires
+split-requires c κs = search needs
+
+same-length-2 : tie.Need-same-length-2
+same-length-2 c = search needs
+
+returns-2 : tie.Need-returns-2
+returns-2 c =
+    let s = c .before .before in
+    let k = s .before .before in
+    let n = k .before .before .before in
+    step-call (is-fine (n .before)) (n .number-of .ensures) (sym (k .if3 .taken)) (s .split .ensures)
+
+merge-requires : tie.Need-merge-requires
+merge-requires c κs = search needs
+
+same-length-3 : tie.Need-same-length-3
+same-length-3 c = search needs
+
+returns-3 : tie.Need-returns-3
+returns-3 c =
+    let m = c .before .before in
+    let k = m .before .before in
+    let n = k .before .before .before in
+    let f = is-fine (n .before) in
+    step-call f (n .number-of .ensures) (omega (arith, f .kinds, k .if3 .left, k .before .if2 .left)) (m .merge .ensures)
+
+returns-4 : tie.Need-returns-4
+returns-4 c = bad (c .before .fine .ensures .no (c .if1 .left))
+
+pub step-spec : {M : Type 1} → statement M
+step-spec =
+    tie.close
+    (tie.spec
+    fine-requires
+    number-of-requires
+    shared-slice-read-kind
+    open-requires
+    same-length
+    returns
+    split-requires
+    same-length-2
+    returns-2
+    merge-requires
+    same-length-3
+    returns-3
+    returns-4)

@@ -1,0 +1,86 @@
+-- Request records, and a run of them on a lent buffer, by "The request file". b is the lent buffer; D is the depth of the panel that is open
+-- at the buffer's start, and 0 where none is.
+use mathlib.Core.Path.{_≡_}
+use mathlib.Core.Logic.{_≢_}
+use mathlib.Core.List.{List, [], _∷_, _++_}
+use Prim.Native.Nat.{ℕ, zero, suc, _+_, _*_, _/_, _^_, _≤_, min}
+use lib.ListN.{length, getD, take, drop}
+use Rattle.bits.specs.Bits.{Bytes}
+use Rattle.panel.specs.Calls.{Open, Split, Merge}
+
+-- ---- records of eight bytes
+
+-- kind (0 open, 1 split, 2 merge)
+abbrev pub kind : List ℕ → ℕ
+kind r = getD r 0 0
+
+-- depth or node as four bytes, lowest first
+abbrev pub number : List ℕ → ℕ
+number r = getD r 4 0 + 256 * (getD r 5 0 + 256 * (getD r 6 0 + 256 * getD r 7 0))
+
+-- a record that isn't bad: it is whole, its kind isn't above 2, its three spare bytes are zero
+pub record Fine (r : List ℕ) : Type 0 where
+  pub whole : length r ≡ 8
+  pub kinds : kind r ≤ 2
+  pub spare-1 : getD r 1 0 ≡ 0
+  pub spare-2 : getD r 2 0 ≡ 0
+  pub spare-3 : getD r 3 0 ≡ 0
+
+-- record i: a tail is shorter than eight bytes
+abbrev pub recordAt : List ℕ → ℕ → List ℕ
+recordAt rs i = take 8 (drop (8 * i) rs)
+
+-- at most 4,096 records
+abbrev pub mostRecords : ℕ
+mostRecords = 4096
+
+-- a tail of 1 to 7 bytes within that limit is one more record; later bytes are ignored
+abbrev pub recordCount : List ℕ → ℕ
+recordCount rs = min mostRecords ((length rs + 7) / 8)
+
+-- ---- one record
+
+-- the bytes of a panel of depth D
+abbrev pub sizeOf : ℕ → ℕ
+sizeOf zero = 0
+sizeOf (suc d) = 2 ^ d
+
+-- the bytes that a panel of depth D takes in the buffer, or all where they are too few
+abbrev pub panelIn : ℕ → List ℕ → List ℕ
+panelIn D b = take (sizeOf D) b
+
+-- the buffer with these bytes changed to t
+abbrev pub changed : ℕ → List ℕ → List ℕ → List ℕ
+changed D b t = t ++ drop (sizeOf D) b
+
+-- the call of this kind with depth or node k answers n, and leaves the panel of depth E in the buffer u. Its answer is that of the call on
+-- the panel's bytes: where none is open there are no bytes, and their length is wrong for every depth
+pub data Called (k D : ℕ) (b : List ℕ) : ℕ → ℕ → ℕ → List ℕ → Type 0 where
+  opened : {t : List ℕ} → Open (panelIn k b) k 0 t → Called k D b 0 0 k (changed k b t)
+  -- a refused open keeps the panel before it
+  refused : {n : ℕ} {t : List ℕ} → Open (panelIn k b) k n t → n ≢ 0 → Called k D b 0 n D b
+  split : {n : ℕ} {t : List ℕ} → Split (panelIn D b) k n t → Called k D b 1 n D (changed D b t)
+  merge : {n : ℕ} {t : List ℕ} → Merge (panelIn D b) k n t → Called k D b 2 n D (changed D b t)
+
+-- record r answers n, and leaves the panel of depth E in the buffer u: refusal 9 is tested first
+pub data Step (r : List ℕ) (D : ℕ) (b : List ℕ) : ℕ → ℕ → List ℕ → Type 0 where
+  bad : (Fine r → ⊥) → Step r D b 9 D b
+  call : {n E : ℕ} {u : List ℕ} → Fine r → Called (number r) D b (kind r) n E u → Step r D b n E u
+
+-- ---- a run of records
+
+-- the first records in turn, from a buffer b where no panel is open: their answers, and the depth and the buffer after them. The buffer holds
+-- bytes after each
+pub data Runs (rs b : List ℕ) : List ℕ → ℕ → List ℕ → Type 0 where
+  none : Runs rs b [] 0 b
+  more :
+      {given t u : List ℕ} {D E n : ℕ} → Runs rs b given D t → Step (recordAt rs (length given)) D t n E u → Bytes u
+      → Runs rs b (given ++ (n ∷ [])) E u
+
+-- the whole call, with the answers' buffer before and after it: every record is answered, or as many as that has room for. Its bytes behind the
+-- last answer stay as before
+pub record Run (rs b out : List ℕ) (count D : ℕ) (t after : List ℕ) : Type 0 where
+  pub all : count ≡ min (recordCount rs) (length out)
+  pub runs : Runs rs b (take count after) D t
+  pub long : length after ≡ length out
+  pub rest : drop count after ≡ drop count out

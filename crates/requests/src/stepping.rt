@@ -1,0 +1,108 @@
+// One record: the call that it asks for, on the panel at the start of the lent buffer. `deep` is its depth, or 0 where none is open.
+use crate::records::fine;
+use crate::records::number_of;
+use nodes::Answer;
+use nodes::Node;
+use nodes::Refusal;
+ghost use mathlib.Core.Path.{_≡_};
+ghost use Prim.Native.Nat.{_≤_};
+ghost use Rattle.nodes.specs.Limits.{greatestDepth};
+ghost use Rattle.nodes.specs.Refusals.{answerNumber};
+ghost use Rattle.requests.specs.Requests.{sizeOf, Called, Step};
+ghost use Rattle.requests.specs.Holding.{Holds};
+
+// What a record comes to: its answer, and the depth of the panel that is open after it, or 0.
+pub struct Stepped {
+    pub answer: Answer,
+    pub deep: usize,
+}
+
+// The bytes of a panel of this depth.
+pub fn size(deep: usize) -> usize
+    requires { ⌜ deep ≤ greatestDepth ⌝ }
+    ensures { λ r. ⌜ r ≡ sizeOf deep ⌝ }
+{
+    if deep == 0 {
+        return 0;
+    }
+    1usize << (deep - 1)
+}
+
+// Opens a panel of this depth at the start of the buffer. A refused open keeps the panel before it.
+fn open(buffer: &mut [u8], deep: usize, depth: u32) -> Stepped
+    ensures { λ r. ⌜ Called depth deep (now (buffer .entry)) 0 (answerNumber (r .answer)) (r .deep) (now (buffer .exit)) ⌝ }
+{
+    let asked = depth as usize;
+    if nodes::GREATEST_DEPTH < asked {
+        return Stepped {
+            answer: Answer::No(Refusal::WrongLength),
+            deep,
+        };
+    }
+    let len = size(asked);
+    if buffer.len() < len {
+        return Stepped {
+            answer: Answer::No(Refusal::WrongLength),
+            deep,
+        };
+    }
+    let answer = panel::opening::open(&mut buffer[..len], depth);
+    match answer {
+        Answer::Done => Stepped {
+            answer: Answer::Done,
+            deep: asked,
+        },
+        Answer::No(e) => Stepped {
+            answer: Answer::No(e),
+            deep,
+        },
+    }
+}
+
+// Splits leaf k of the open panel.
+fn split(buffer: &mut [u8], deep: usize, k: u32) -> Answer
+    requires { ⌜ Holds deep (now buffer) ⌝ }
+    ensures { λ r. ⌜ Called k deep (now (buffer .entry)) 1 (answerNumber r) deep (now (buffer .exit)) ⌝ }
+{
+    if deep == 0 {
+        return Answer::No(Refusal::WrongLength);
+    }
+    let len = size(deep);
+    panel::judged::split(&mut buffer[..len], deep, Node(k))
+}
+
+// Merges leaf k of the open panel.
+fn merge(buffer: &mut [u8], deep: usize, k: u32) -> Answer
+    requires { ⌜ Holds deep (now buffer) ⌝ }
+    ensures { λ r. ⌜ Called k deep (now (buffer .entry)) 2 (answerNumber r) deep (now (buffer .exit)) ⌝ }
+{
+    if deep == 0 {
+        return Answer::No(Refusal::WrongLength);
+    }
+    let len = size(deep);
+    panel::judged::merge(&mut buffer[..len], deep, Node(k))
+}
+
+// Does what the record asks, and says what it comes to.
+pub fn step(request: &[u8], buffer: &mut [u8], deep: usize) -> Stepped
+    requires { ⌜ Holds deep (now buffer) ⌝ }
+    ensures { λ r. ⌜ Step (now (request .entry)) deep (now (buffer .entry)) (answerNumber (r .answer)) (r .deep) (now (buffer .exit)) ⌝ }
+{
+    if fine(request) {
+        let number = number_of(request);
+        let kind = request[0];
+        if kind == 0 {
+            return open(buffer, deep, number);
+        }
+        if kind == 1 {
+            let answer = split(buffer, deep, number);
+            return Stepped { answer, deep };
+        }
+        let answer = merge(buffer, deep, number);
+        return Stepped { answer, deep };
+    }
+    Stepped {
+        answer: Answer::No(Refusal::BadRecord),
+        deep,
+    }
+}

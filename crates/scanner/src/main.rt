@@ -1,0 +1,52 @@
+// The scanner: reads request records from standard input, works through them, and prints a line for each answer. Then, if a panel is
+// open, it prints a line for each of its leaves.
+use libc::STDIN_FILENO;
+use libc::STDOUT_FILENO;
+use nodes::LeafNumber;
+ghost use mathlib.Core.Path.{_≡_};
+ghost use Rattle.panel.specs.Panels.{deepOf, Good};
+
+fn wide(x: u8) -> u64 {
+    x as u64
+}
+
+// Two numbers with a space between them.
+fn print_line(a: u64, b: u64) {
+    io::print_decimal(STDOUT_FILENO, a);
+    io::write_all(STDOUT_FILENO, b" ");
+    io::print_decimal(STDOUT_FILENO, b);
+    io::write_all(STDOUT_FILENO, b"\n");
+}
+
+// Each record's number from 1, and its answer.
+fn print_answers(answers: &[u8]) {
+    for i in 0..answers.len() {
+        print_line(i as u64 + 1, wide(answers[i]));
+    }
+}
+
+// Each leaf's number, and its node. The panel is good, and is not judged again.
+fn print_leaves(panel: &[u8], deep: usize)
+    requires { ⌜ Good (now panel) × (deep ≡ deepOf (now panel)) ⌝ }
+{
+    let n = panel::judged::count(panel, deep);
+    for i in 0..n {
+        let k = panel::judged::leaf_at(panel, deep, LeafNumber(i));
+        print_line(i as u64, k.0 as u64);
+    }
+}
+
+fn main() {
+    let mut input = [0u8; 8 * requests::MOST_RECORDS];
+    let mut buffer = [0u8; 1 << (nodes::GREATEST_DEPTH - 1)];
+    let mut answers = [0u8; requests::MOST_RECORDS];
+    let got = io::read_full(STDIN_FILENO, &mut input);
+    let ran = requests::run(&input[..got], &mut buffer, &mut answers);
+    let count = ran.count;
+    print_answers(&answers[..count]);
+    let deep = ran.deep;
+    if deep != 0 {
+        let len = requests::size(deep);
+        print_leaves(&buffer[..len], deep);
+    }
+}
