@@ -16,9 +16,6 @@ Bits f = (p : ℕ) → f p ≤ 1
 abbrev pub unset : (ℕ → ℕ) → ℕ → ℕ
 unset f p = 1 - f p
 
-pub unset-bits : (f : ℕ → ℕ) → Bits (unset f)
-unset-bits f p = omega arith
-
 module _ (f : ℕ → ℕ) where
   pub rank-none : rank f 0 ≡ 0
   unfolding rank

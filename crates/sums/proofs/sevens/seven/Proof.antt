@@ -1,5 +1,5 @@
 -- The two tables' rule is a test of the seven sums at each x below 256, which antt computes.
-use mathlib.Core.Path.{_≡_, sym, subst}
+use mathlib.Core.Path.{_≡_, subst}
 use mathlib.Core.Logic.{⊎-elim}
 use mathlib.Core.Bool.{Bool, true, false, _&&_}
 use mathlib.Core.List.{List, [], _∷_}
@@ -51,6 +51,7 @@ sevens-are x n t =
       };
     }
 
+-- the tables
 abbrev first : List ℕ
 first = 0 ∷ 16641 ∷ 16641 ∷ 33282 ∷ 16644 ∷ 33285 ∷ 33285 ∷ 49926 ∷ 16644 ∷ 33285 ∷ 33285 ∷ 49926 ∷ 33288 ∷ 49929 ∷ 49929 ∷ 66570 ∷ []
 
