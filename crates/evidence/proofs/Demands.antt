@@ -31,12 +31,14 @@ use Rattle.panel.specs.Calls.{panelRows, leafRows, Judged, Count, LeafBits, Lea
 use Rattle.panel.proofs.GoodPanels.{leaf-in-range, word-count, leaf-areas}
 use Rattle.panel.proofs.SameBytes.{bytes-same}
 use Rattle.panel.proofs.Once.{judge-one, count-one, leaf-bits-one, leaf-at-one, number-of-one, open-one, split-one, merge-one}
-use Rattle.requests.specs.Requests.{Step, Run}
+use Rattle.requests.specs.Requests.{Fine, Called, Step, Run}
+use Rattle.requests.specs.Requests.Called.{opened, refused, split as splits, merge as merges}
+use Rattle.requests.specs.Requests.Step.{bad, call}
 use Rattle.requests.specs.Holding.{Holds}
 use Rattle.requests.proofs.Once.{step-one, run-one}
 use Rattle.requests.proofs.Keeping.{step-refused, run-holds}
 use Rattle.evidence.specs.Known.{Every, knownCases}
-use Rattle.evidence.proofs.Exactly.{Rising, Exactly, refused-exactly}
+use Rattle.evidence.proofs.Exactly.{Rising, Exactly, refused-exactly, outcome-under}
 use Rattle.evidence.proofs.Known.{known}
 use Rattle.evidence.proofs.Numbers.{NumbersName, numbers-name, number-of-leaf-at, leaf-at-number-of}
 use Rattle.evidence.proofs.Sequences.{Reached, always-good, always-covers, always-long-side, split-grows, back-answers, back-restores, again-restores}
@@ -74,10 +76,22 @@ pub record Demand1 : Type 0 where
   pub merge : (s : List ℕ) (k : ℕ) → Settled (leafRows s k ++ unless 6 (1 < depthOf k) ∷ unless 7 (Together s k) ∷ []) (List ℕ) Bytes s (Merge s k)
   pub neighbours : (n : ℕ) → Settled (nodeRows n) Triple (Any Triple) none (Neighbours n)
   pub corners : (n : ℕ) → Settled (nodeRows n) Triangle (Any Triangle) noCorners (Corners n)
-  -- one record, and a refused one; a run of records
+  -- one record: 9 exactly where it is bad, and else its call's answer; a refused one; a run of records
   pub step : {r b u v : List ℕ} {D n m E F : ℕ} → Bytes u → Bytes v → Step r D b n E u → Step r D b m F v → (n ≡ m) × (E ≡ F) × (u ≡ v)
+  pub step-bad : {r b u : List ℕ} {D n E : ℕ} → Step r D b n E u → (n ≡ 9) ↔ (Fine r → ⊥)
   pub step-keeps : {r b u : List ℕ} {D n E : ℕ} → Step r D b n E u → n ≢ 0 → (E ≡ D) × (u ≡ b)
   pub run : {rs b out u v x y : List ℕ} {n m D E : ℕ} → Run rs b out n D u x → Run rs b out m E v y → (n ≡ m) × (D ≡ E) × (u ≡ v) × (x ≡ y)
+
+-- no call answers 9
+called-under : {k D c n E : ℕ} {b u : List ℕ} → Called k D b c n E u → n < 9
+called-under (opened o) = omega arith
+called-under (refused o z) = outcome-under 9 (omega arith) o
+called-under (splits o) = outcome-under 9 (omega arith) o
+called-under (merges o) = outcome-under 9 (omega arith) o
+
+nine-exactly : {r b u : List ℕ} {D n E : ℕ} → Step r D b n E u → (n ≡ 9) ↔ (Fine r → ⊥)
+nine-exactly (bad f) = (λ e. f, λ g. refl)
+nine-exactly (call g c) = (λ e. absurd (let h = called-under c in omega arith), λ f. absurd (f g))
 
 pub demand-1 : Demand1
 demand-1 = record {
@@ -96,6 +110,7 @@ demand-1 = record {
   neighbours = λ n. settled _ _ _ _ _ (omega arith) (λ a b x y _ _. neighbours-one n a b x y);
   corners = λ n. settled _ _ _ _ _ (omega arith) (λ a b x y _ _. corners-one n a b x y);
   step = step-one;
+  step-bad = nine-exactly;
   step-keeps = step-refused;
   run = run-one;
 }

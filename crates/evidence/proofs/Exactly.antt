@@ -4,7 +4,7 @@ use mathlib.Core.Logic.{_≢_, _⊎_, inl, inr, _↔_}
 use mathlib.Core.List.{List, [], _∷_}
 use Prim.Native.Nat.{ℕ, _≤_, _<_}
 use native.Mathlib.Omega.{arith}
-use Rattle.nodes.specs.Table.{Row, Answers}
+use Rattle.nodes.specs.Table.{Row, Answers, Outcome}
 
 -- the numbers of a table rise, from above m on
 abbrev pub Rising : ℕ → List Row → Type 0
@@ -50,3 +50,18 @@ exactly-after P (r ∷ rows) m n (l, u) (inr (f, z, h)) =
 
 pub refused-exactly : (rows : List Row) (n : ℕ) → Rising 0 rows → Answers rows n → Exactly rows n
 refused-exactly rows n u a = exactly-after (Unit {0}) rows 0 n u (inl (tt, a))
+
+-- ---- no other number is answered
+
+-- every number of a table is below m
+abbrev pub Under : ℕ → List Row → Type 0
+Under m [] = 0 < m
+Under m (r ∷ rows) = (r .number < m) × Under m rows
+
+answers-under : (rows : List Row) (m n : ℕ) → Under m rows → Answers rows n → n < m
+answers-under [] m n u a = omega arith
+answers-under (r ∷ rows) m n (l, u) (inl a) = omega (arith, a .1)
+answers-under (r ∷ rows) m n (l, u) (inr a) = answers-under rows m n u (a .1)
+
+pub outcome-under : {rows : List Row} {A : Type 0} {Done Refused : A → Type 0} {n : ℕ} {x : A} (m : ℕ) → Under m rows → Outcome rows A Done Refused n x → n < m
+outcome-under {rows} {n = n} m u o = answers-under rows m n u (o .answer)
