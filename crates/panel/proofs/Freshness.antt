@@ -3,7 +3,7 @@ use mathlib.Core.Path.{_≡_, refl, sym, ap, _∙_, subst}
 use mathlib.Core.Logic.{_≢_, _↔_, inl, inr}
 use mathlib.Core.List.{List}
 use Prim.Native.Nat.{ℕ, zero, suc, _+_, _-_, _*_, _/_, _%_, _^_, _≤_, _<_}
-use native.Mathlib.Nat.{zero-div, zero-mod}
+use native.Mathlib.Nat.{zero-div}
 use native.Mathlib.Decide.{ℕ-discrete}
 use native.Mathlib.Omega.{arith}
 use lib.ListN.{length}
@@ -17,7 +17,7 @@ use Rattle.sums.proofs.Slots.{wide, packed, from-zero, from-one, word-put-same,
 use Rattle.sums.proofs.Leaves.{length-put-leaf, leaf-put-same, leaf-put-other, bit-put-leaf, word-put-leaf}
 use Rattle.sums.proofs.Unique.{summed-leaf, summed-right}
 use Rattle.cuts.specs.Cuts.{named, Cut, GoodCuts}
-use Rattle.panel.specs.Panels.{Fits, deepOf, CutOf, Good}
+use Rattle.panel.specs.Panels.{Fits, deepOf}
 use Rattle.panel.specs.Calls.{Fresh}
 use Rattle.cuts.specs.Steps.{CutPlace}
 use Rattle.panel.specs.Opening.{Cleared}

@@ -1,10 +1,10 @@
 -- The rows of the panel calls' tables, as a `return` proves them: what a judgement hands on, and what stands behind it.
-use mathlib.Core.Path.{_≡_, refl}
+use mathlib.Core.Path.{refl}
 use mathlib.Core.Logic.{_≢_, inl, inr}
-use mathlib.Core.List.{List, [], _∷_, _++_}
+use mathlib.Core.List.{List, _++_}
 use Prim.Native.Nat.{ℕ}
 use native.Mathlib.Omega.{arith}
-use Rattle.nodes.specs.Table.{Row, unless, Answers}
+use Rattle.nodes.specs.Table.{Row, Answers}
 use Rattle.panel.specs.Panels.{RightLength, Good}
 use Rattle.panel.specs.Calls.{panelRows, Judged}
 
