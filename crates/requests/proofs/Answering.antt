@@ -23,6 +23,10 @@ use Rattle.requests.proofs.Parts.{fits-size, none-right, inside, same-c
 
 -- ---- open
 
+-- the code's `kept`: what is refused with m keeps the depth
+pub called-kept : {k D c n m E : ℕ} {b u : List ℕ} → (n ≡ m) × (E ≡ D) → Called k D b c m D u → Called k D b c n E u
+called-kept {k} {D} {c} {b = b} {u = u} e p = subst₂ (λ x y. Called k D b c x y u) (sym (e .0)) (sym (e .1)) p
+
 -- the bytes fit no panel of the asked depth
 not-open : (k D : ℕ) (b : List ℕ) → (Fits (panelIn k b) k → ⊥) → Called k D b 0 1 D b
 not-open k D b f = refused {t = panelIn k b} (is-refused (λ e. omega arith) (inl (f, refl)) refl) (λ e. omega arith)
@@ -99,3 +103,6 @@ answer-byte (No r) = refusal-byte r
 
 pub step-call : {r b u : List ℕ} {k D c n E : ℕ} → Fine r → k ≡ number r → c ≡ kind r → Called k D b c n E u → Step r D b n E u
 step-call {r} {b} {u} {D = D} {n = n} {E = E} f e h p = call f (subst₂ (λ x y. Called x D b y n E u) e h p)
+
+pub step-kept : {r b u : List ℕ} {D n m E : ℕ} → (n ≡ m) × (E ≡ D) → Step r D b m D u → Step r D b n E u
+step-kept {r} {b} {u} {D} e p = subst₂ (λ x y. Step r D b x y u) (sym (e .0)) (sym (e .1)) p
