@@ -19,7 +19,7 @@ use Rattle.requests.specs.Requests.{kind, number, Fine, sizeOf, panelIn,
 use Rattle.requests.specs.Requests.Called.{opened, refused, split, merge}
 use Rattle.requests.specs.Requests.Step.{call}
 use Rattle.requests.specs.Holding.{Holds}
-use Rattle.requests.proofs.Parts.{fits-size, none-right, inside, same-changed, held-fits, held-inside}
+use Rattle.requests.proofs.Parts.{no-room, none-right, same-changed, held-fits, held-inside}
 
 -- ---- open
 
@@ -35,7 +35,7 @@ pub too-deep : (k D : ℕ) (b : List ℕ) → greatestDepth < k → Called k D b
 too-deep k D b h = not-open k D b (λ f. omega (arith, f .high))
 
 pub too-short : (k D : ℕ) (b : List ℕ) → length b < sizeOf k → Called k D b 0 1 D b
-too-short k D b h = not-open k D b (λ f. omega (arith, inside k b (fits-size f)))
+too-short k D b h = not-open k D b (no-room k b h)
 
 module _ (k D n : ℕ) (b t : List ℕ) (e : n ≡ sizeOf k) where
   pub open-done : {a : Answer} → Open (take n b) k (answerNumber a) t → a ≡ Done → Called k D b 0 0 k (t ++ drop n b)
