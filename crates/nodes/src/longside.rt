@@ -1,32 +1,27 @@
-// The neighbour across the long side, two digits at a time.
+// The neighbour across the long side, without a way down to it.
 use crate::numbers::Node;
+use crate::numbers::depth;
 ghost use mathlib.Core.Path.{_≡_};
 ghost use Prim.Native.Nat.{_≤_, _<_, _^_};
 ghost use Rattle.nodes.specs.Neighbours.{edge};
 
-// The edge neighbour of n, or 0. Two levels up, the pair of digits 01 or 10 has its neighbour beside it, and 00 or 11 across
-// the long side of the node above, with the pair mirrored: so mirrored pairs are passed until another ends the way.
+// The edge neighbour of n, or 0. Two levels make a pair of digits. A pair 01 or 10 has its neighbour beside itself; a pair
+// 00 or 11 has it, mirrored, below the neighbour of the node two levels up. So the digits up to the lowest mixed pair, g digits
+// up, are turned round. Where no pair above the first digits is mixed, the other half of the panel holds it, or the border.
 pub fn edge_of(n: Node) -> u32
     requires { ⌜ (2 ≤ n .0) × (n .0 < 2 ^ 18) ⌝ }
     ensures { λ r. ⌜ r ≡ edge (n .0) ⌝ }
 {
-    let mut m = n.0;
-    let mut w: u32 = 1;
-    let mut mirrored: u32 = 0;
-    while 8 <= m {
-        let pair = m % 4;
-        if pair == 1 {
-            return (m + 1) * w + mirrored;
-        }
-        if pair == 2 {
-            return (m - 1) * w + mirrored;
-        }
-        mirrored += (3 - pair) * w;
-        w *= 4;
-        m /= 4;
+    let k = n.0;
+    let d = depth(n);
+    let g = u32::trailing_zeros((k ^ (k / 2)) & 0x5555_5555);
+    if g + 3 <= d {
+        let turned = 4u32 << g;
+        let low = k % turned;
+        return (k - low) + (turned - 1 - low);
     }
-    if m < 4 {
-        return (5 - m) * w + mirrored;
+    if d % 2 == 1 {
+        return (3u32 << d) - 1 - k;
     }
     0
 }

@@ -1,6 +1,6 @@
 -- The rows of the tables of calls that take a node or a leaf number, as a `return` proves them, and what a call that is done has passed.
-use mathlib.Core.Path.{refl}
-use mathlib.Core.Logic.{inl, inr}
+use mathlib.Core.Path.{refl, sym}
+use mathlib.Core.Logic.{_≢_, inl, inr}
 use mathlib.Core.List.{List, [], _∷_, _++_}
 use Prim.Native.Nat.{ℕ, _<_}
 use native.Mathlib.Omega.{arith}
@@ -40,10 +40,15 @@ good-past rows (inl p) = absurd (omega (arith, p .1))
 good-past rows (inr (l, inl p)) = absurd (omega (arith, p .1))
 good-past rows (inr (l, inr a)) = a
 
-pub leaf-past : {s : List ℕ} {k : ℕ} → Answers (leafRows s k) 0 → Good s × LeafOf s k
-leaf-past {s} {k} a = let (g, b) = good-past (unless 3 (InRange s k) ∷ unless 4 (LeafOf s k) ∷ []) a in (g, go b)
+pub leaf-past : {s : List ℕ} {k : ℕ} (rows : List Row) → Answers (leafRows s k ++ rows) 0 → Good s × LeafOf s k × Answers rows 0
+leaf-past {s} {k} rows a = let (g, b) = good-past (unless 3 (InRange s k) ∷ unless 4 (LeafOf s k) ∷ rows) a in let (l, c) = go b in (g, l, c)
   where
-    go : Answers (unless 3 (InRange s k) ∷ unless 4 (LeafOf s k) ∷ []) 0 → LeafOf s k
+    go : Answers (unless 3 (InRange s k) ∷ unless 4 (LeafOf s k) ∷ rows) 0 → LeafOf s k × Answers rows 0
     go (inl p) = absurd (omega (arith, p .1))
     go (inr (r, inl p)) = absurd (omega (arith, p .1))
-    go (inr (r, inr (l, e))) = l
+    go (inr (r, inr a)) = a
+
+-- .. of one row more
+pub row-past : {n : ℕ} {P : Type 0} (rows : List Row) → n ≢ 0 → Answers (unless n P ∷ rows) 0 → P × Answers rows 0
+row-past rows z (inl p) = absurd (z (sym (p .1)))
+row-past rows z (inr a) = a

@@ -31,6 +31,6 @@ number-of-leaf-at s i k x =
 -- .. and leaf_at undoes number_of
 pub leaf-at-number-of : (s : List ℕ) (k i : ℕ) → NumberOf s k 0 i → LeafAt s i 0 k
 leaf-at-number-of s k i y =
-    let (g, l) = leaf-past (y .answer) in
+    let (g, l, _) = leaf-past [] (y .answer) in
     let e = y .done refl in
     is-done (is-number g (subst (λ x. x < leafCount s) (sym e) (number-lt s g k l))) (record { leaf = l; number = sym e })

@@ -1,114 +1,96 @@
--- The pairs of digits passed are mirrored pairs; the first other pair, or depth 1 or 2, ends the way.
-use mathlib.Core.Path.{sym}
-use Prim.Native.Nat.{_+_, _-_, _%_}
-use native.Mathlib.Nat.{mul-le-mul-right}
+-- The trailing zeros count the digits below the lowest mixed pair, and each way out is a case of `Across`.
+use mathlib.Core.Path.{_≡_, sym, subst}
+use Prim.Native.Nat.{ℕ, _*_, _/_, _%_, _^_, _≤_, _<_}
+use native.Mathlib.Nat.{mod-le}
 use native.Mathlib.Omega.{arith}
-use Rattle.nodes.proofs.Mirrors.{Mirrored, mirrored-start, mirrored-fits, mirrored-left, mirrored-right, mirrored-up, mirrored-first, mirrored-second}
+use borrow.Author.Needs.{needs}
+use lib.Bits.{bitAnd, bitXor}
+use lib.Count.{trailingZeros, trailing-le}
+use lib.Pow.{pow-pos}
+use Rattle.nodes.proofs.Depths.{at-depth, depth-le}
+use Rattle.nodes.proofs.Mirrors.{Across, across, Turns, turns, half-shift}
 use Rattle.nodes.proofs.longside.edge_of.Statement.{statement}
 use Rattle.nodes.proofs.longside.edge_of.Tie as tie
 
-abbrev Inv-loop : tie.InvT-loop
-Inv-loop m₀ w₀ mirrored₀ m w mirrored = Mirrored m₀ m w mirrored
+abbrev zeros : ℕ → ℕ
+zeros k = trailingZeros 32 (bitAnd (bitXor k (k / 2)) 0x55555555)
 
-abbrev μ-loop : tie.MeasureT-loop
-μ-loop m₀ w₀ mirrored₀ m w mirrored = m
+depth-requires : tie.Need-depth-requires
+depth-requires c κs = search needs
 
-loop-holds : tie.Need-loop-holds Inv-loop μ-loop
-loop-holds c = mirrored-start (c .args .n .0) (omega arith)
+-- what the number says of the neighbour, at the depth that the code has
+here : (c : tie.After-depth) → Across (zeros (c .before .args .n .0)) (c .depth .result) (c .before .args .n .0)
+here c =
+    subst (λ d. Across (zeros (c .before .args .n .0)) d (c .before .args .n .0)) (sym (c .depth .ensures))
+    (across 16 (c .before .args .n .0) (omega arith) (omega arith))
 
-add-result : tie.Need-add-result Inv-loop μ-loop
-add-result c = omega (arith, mirrored-fits (c .before .before .loop .inv))
+deep : (c : tie.After-depth) → c .depth .result ≤ 17
+deep c = omega (arith, depth-le (c .before .args .n .0) 17 (omega arith))
 
-mul-result : tie.Need-mul-result Inv-loop μ-loop
-mul-result c = omega (arith, mirrored-fits (c .before .before .loop .inv))
+-- where a pair is mixed
+inner : (c : tie.Then1) → Turns (c .before .before .args .n .0) (zeros (c .before .before .args .n .0))
+inner c = turns (c .before .before .args .n .0) (zeros (c .before .before .args .n .0)) (omega arith) (omega arith) (omega arith)
 
-add-result-2 : tie.Need-add-result-2 Inv-loop μ-loop
-add-result-2 c = omega (arith, mirrored-fits (c .before .before .loop .inv))
+add-if1 : tie.Need-add-if1
+add-if1 c = omega (arith, trailing-le 32 (bitAnd (bitXor (c .before .args .n .0) (c .before .args .n .0 / 2)) 0x55555555))
 
-returns : tie.Need-returns Inv-loop μ-loop
-returns c = let l = c .before .before .loop in sym (mirrored-left (l .inv) (omega arith) (c .if1 .taken))
+shl-turned : tie.Need-shl-turned
+shl-turned c = omega (arith, deep (c .before))
 
-sub-result : tie.Need-sub-result Inv-loop μ-loop
-sub-result c = omega arith
+rem-low : tie.Need-rem-low
+rem-low c = omega (arith, inner c)
 
-mul-result-2 : tie.Need-mul-result-2 Inv-loop μ-loop
-mul-result-2 c =
-    let l = c .before .before .before .loop in
-    omega (arith, mirrored-fits (l .inv), mul-le-mul-right {m = l .m - 1} {n = l .m + 1} (l .w) (omega arith))
+sub-result : tie.Need-sub-result
+sub-result c = mod-le _ _
 
-add-result-3 : tie.Need-add-result-3 Inv-loop μ-loop
-add-result-3 c =
-    let l = c .before .before .before .loop in
-    omega (arith, mirrored-fits (l .inv), mul-le-mul-right {m = l .m - 1} {n = l .m + 1} (l .w) (omega arith))
+sub-result-2 : tie.Need-sub-result-2
+sub-result-2 c = omega (arith, inner c)
 
-returns-2 : tie.Need-returns-2 Inv-loop μ-loop
-returns-2 c = let l = c .before .before .before .loop in sym (mirrored-right (l .inv) (omega arith) (c .if2 .taken))
+sub-result-3 : tie.Need-sub-result-3
+sub-result-3 c = rw (inner c .shift) (omega (arith, inner c))
 
-sub-mirrored : tie.Need-sub-mirrored Inv-loop μ-loop
-sub-mirrored c = omega arith
+add-result : tie.Need-add-result
+add-result c = rw (inner c .shift) (omega (arith, inner c))
 
-mul-mirrored : tie.Need-mul-mirrored Inv-loop μ-loop
-mul-mirrored c =
-    let l = c .before .before .before .loop in
-    omega (arith, mirrored-fits (l .inv), mul-le-mul-right {m = 3 - l .m % 4} {n = 3} (l .w) (omega arith))
+returns : tie.Need-returns
+returns c = rw (inner c .shift) (sym (here (c .before) .inner (c .if1 .taken)))
 
-add-mirrored : tie.Need-add-mirrored Inv-loop μ-loop
-add-mirrored c =
-    let l = c .before .before .before .loop in
-    omega (arith, mirrored-fits (l .inv), mul-le-mul-right {m = 3 - l .m % 4} {n = 3} (l .w) (omega arith))
+-- where none is, at an odd depth
+half : (c : tie.Then2) → (3 * 2 ^ (c .before .before .depth .result) % 2 ^ 32 ≡ 3 * 2 ^ (c .before .before .depth .result)) × (c .before .before .before .args .n .0 < 2 * 2 ^ (c .before .before .depth .result))
+half c =
+    let k = c .before .before .before .args .n .0 in
+    (half-shift (c .before .before .depth .result) (deep (c .before .before)), subst (λ d. k < 2 * 2 ^ d) (sym (c .before .before .depth .ensures)) (omega (arith, at-depth {n = k} (omega arith))))
 
-mul-w : tie.Need-mul-w Inv-loop μ-loop
-mul-w c = omega (arith, mirrored-fits (c .before .before .before .loop .inv))
+shl-result : tie.Need-shl-result
+shl-result c = omega (arith, deep (c .before .before))
 
-loop-less : tie.Need-loop-less Inv-loop μ-loop
-loop-less c = omega arith
+sub-result-4 : tie.Need-sub-result-4
+sub-result-4 c = omega (arith, half c, pow-pos (c .before .before .depth .result))
 
-loop-again : tie.Need-loop-again Inv-loop μ-loop
-loop-again c =
-    let l = c .before .before .before .loop in mirrored-up (l .inv) (omega arith) (c .before .if1 .left) (c .if2 .left)
+sub-result-5 : tie.Need-sub-result-5
+sub-result-5 c = omega (arith, half c, pow-pos (c .before .before .depth .result))
 
-sub-result-2 : tie.Need-sub-result-2 Inv-loop μ-loop
-sub-result-2 c = omega arith
+returns-2 : tie.Need-returns-2
+returns-2 c = rw (half c .0) (sym (here (c .before .before) .half (λ h. omega arith) (c .if2 .taken)))
 
-mul-result-3 : tie.Need-mul-result-3 Inv-loop μ-loop
-mul-result-3 c =
-    let l = c .before .before .loop in
-    omega (arith, mirrored-fits (l .inv), mul-le-mul-right {m = 5 - l .m} {n = 3} (l .w) (omega arith))
-
-add-result-4 : tie.Need-add-result-4 Inv-loop μ-loop
-add-result-4 c =
-    let l = c .before .before .loop in
-    omega (arith, mirrored-fits (l .inv), mul-le-mul-right {m = 5 - l .m} {n = 3} (l .w) (omega arith))
-
-returns-3 : tie.Need-returns-3 Inv-loop μ-loop
-returns-3 c = sym (mirrored-first (c .before .before .loop .inv) (omega arith))
-
-returns-4 : tie.Need-returns-4 Inv-loop μ-loop
-returns-4 c = sym (mirrored-second (c .before .before .loop .inv) (omega arith) (omega arith))
+returns-3 : tie.Need-returns-3
+returns-3 c = sym (here (c .before .before) .none (λ h. omega arith) (c .if2 .left))
 
 pub edge-of-spec : {M : Type 1} → statement M
 edge-of-spec =
     tie.close
     (tie.spec
-    Inv-loop
-    μ-loop
-    loop-holds
-    add-result
-    mul-result
-    add-result-2
-    returns
+    depth-requires
+    add-if1
+    shl-turned
+    rem-low
     sub-result
-    mul-result-2
-    add-result-3
-    returns-2
-    sub-mirrored
-    mul-mirrored
-    add-mirrored
-    mul-w
-    loop-less
-    loop-again
     sub-result-2
-    mul-result-3
-    add-result-4
-    returns-3
-    returns-4)
+    sub-result-3
+    add-result
+    returns
+    shl-result
+    sub-result-4
+    sub-result-5
+    returns-2
+    returns-3)

@@ -1,0 +1,104 @@
+//! Holds every exported call against the second program, case by case, and stops at the first difference.
+//!
+//!     compare [--seed NUMBER] [--cases NUMBER]
+//!
+//! The same seed and number give the same cases. It prints how many cases it compared, by call and answer, and how many panels by
+//! depth. Exit status: 0 no difference, and every answer of every call was seen; 1 otherwise; 2 wrong arguments.
+
+// What panels need stands idle until their calls are on.
+#![cfg_attr(not(feature = "reads"), allow(dead_code))]
+
+mod exports;
+mod random;
+mod tally;
+
+#[cfg(feature = "reads")]
+mod damage;
+#[cfg(feature = "reads")]
+mod fields;
+#[cfg(feature = "reads")]
+mod frame;
+#[cfg(feature = "nodes")]
+mod nodes;
+#[cfg(feature = "reads")]
+mod runs;
+#[cfg(feature = "reads")]
+mod subject;
+
+use std::process::ExitCode;
+
+use random::Random;
+use tally::{Compared, Difference, Tally};
+
+/// The calls that are compared, and the answers that document 01 gives each.
+pub const CALLS: &[(&str, &[u32])] = &[
+    #[cfg(feature = "nodes")]
+    ("node_neighbours", &[0, 3]),
+    #[cfg(feature = "nodes")]
+    ("node_corners", &[0, 3]),
+    #[cfg(feature = "reads")]
+    ("panel_open", &[0, 1]),
+    #[cfg(feature = "reads")]
+    ("panel_judge", &[0, 1, 2]),
+    #[cfg(feature = "reads")]
+    ("panel_count", &[0, 1, 2]),
+    #[cfg(feature = "reads")]
+    ("panel_leaf", &[0, 1, 2, 8]),
+    #[cfg(feature = "reads")]
+    ("panel_number", &[0, 1, 2, 3, 4]),
+    #[cfg(feature = "reads")]
+    ("panel_leaf_bits", &[0, 1, 2]),
+    #[cfg(feature = "changes")]
+    ("panel_split", &[0, 1, 2, 3, 4, 5]),
+    #[cfg(feature = "changes")]
+    ("panel_merge", &[0, 1, 2, 3, 4, 6, 7]),
+];
+
+/// The seed, and how many random cases of each kind.
+struct Arguments {
+    seed: u64,
+    cases: usize,
+}
+
+fn arguments() -> Option<Arguments> {
+    let mut found = Arguments { seed: 1, cases: 200 };
+    let mut words = std::env::args().skip(1);
+    while let Some(word) = words.next() {
+        match word.as_str() {
+            "--seed" => found.seed = words.next()?.parse().ok()?,
+            "--cases" => found.cases = words.next()?.parse().ok()?,
+            _ => return None,
+        }
+    }
+    Some(found)
+}
+
+fn compare(tally: &mut Tally, random: &mut Random, cases: usize) -> Compared {
+    #[cfg(feature = "nodes")]
+    nodes::all(tally, random, 100 * cases)?;
+    #[cfg(feature = "reads")]
+    {
+        fields::all(tally, random)?;
+        runs::all(tally, random, cases)?;
+        damage::all(tally, random, cases)?;
+    }
+    Ok(())
+}
+
+fn main() -> ExitCode {
+    let Some(Arguments { seed, cases }) = arguments() else {
+        eprintln!("compare [--seed NUMBER] [--cases NUMBER]");
+        return ExitCode::from(2);
+    };
+    println!("exports against second, seed {seed}, {cases} cases of each kind");
+    let mut tally = Tally::default();
+    if let Err(Difference(what)) = compare(&mut tally, &mut Random(seed), cases) {
+        println!("compare: {what}");
+        return ExitCode::FAILURE;
+    }
+    if tally.print() {
+        ExitCode::SUCCESS
+    } else {
+        ExitCode::FAILURE
+    }
+}

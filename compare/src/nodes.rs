@@ -1,0 +1,30 @@
+//! The calls that take no panel: every node to 70,000, those around powers of two, and random ones.
+
+use second::calls;
+
+use crate::exports;
+use crate::random::Random;
+use crate::tally::{Compared, Tally};
+
+fn one(tally: &mut Tally, node: u32) -> Compared {
+    let (answer, around) = calls::neighbours(node);
+    let around = (answer, [around.left, around.right, around.edge]);
+    tally.compare("node_neighbours", exports::neighbours(node), around, || format!("node {node}"))?;
+    tally.compare("node_corners", exports::corners(node), calls::corners(node), || format!("node {node}"))
+}
+
+pub fn all(tally: &mut Tally, random: &mut Random, cases: usize) -> Compared {
+    for node in 0..=70_000 {
+        one(tally, node)?;
+    }
+    for power in 17..32 {
+        for node in [(1 << power) - 1, 1 << power, (1 << power) + 1] {
+            one(tally, node)?;
+        }
+    }
+    one(tally, u32::MAX)?;
+    for _ in 0..cases {
+        one(tally, random.next() as u32)?;
+    }
+    Ok(())
+}

@@ -1,0 +1,85 @@
+//! Good panels of every depth, reached by long runs of splits and merges.
+
+use std::collections::BTreeSet;
+
+use second::panel::Panel;
+use second::triangles::{depth, GREATEST_DEPTH, LEAST_DEPTH};
+
+use crate::random::Random;
+use crate::subject::{Asked, Subject};
+use crate::tally::{Compared, Tally};
+
+/// The smallest good panel with some random cuts, few or many.
+pub fn random_panel(panel_depth: u32, random: &mut Random) -> Panel {
+    let nodes = 1usize << panel_depth;
+    let many = 1 << random.below(panel_depth as usize);
+    let cuts: BTreeSet<u32> = (0..many).map(|_| 1 + random.below(nodes - 1) as u32).collect();
+    Panel::holding(panel_depth, &cuts)
+}
+
+fn all_cut(depth: u32) -> Panel {
+    Panel::holding(depth, &(1..1 << depth).collect())
+}
+
+/// A node to change: mostly a leaf, often one of the deepest, at times one beside a leaf or any number.
+fn node(panel: &Panel, random: &mut Random) -> u32 {
+    let leaf = random.pick(panel.leaves());
+    let other = random.pick(panel.leaves());
+    match random.below(16) {
+        0 => leaf / 2,
+        1 => 2 * leaf,
+        2 => random.below((2 << panel.depth()) + 3) as u32,
+        3 => random.next() as u32,
+        4..=7 => {
+            if depth(leaf) < depth(other) {
+                other
+            } else {
+                leaf
+            }
+        }
+        _ => leaf,
+    }
+}
+
+/// So many steps from a panel on, growing and shrinking by turns. Each step's answer and bytes are compared, and
+/// then some of the calls that read.
+fn run(tally: &mut Tally, random: &mut Random, start: Panel, steps: usize) -> Compared {
+    let mut panel = start;
+    for step in 0..steps {
+        let node = node(&panel, random);
+        let grow = (step * 6 / steps).is_multiple_of(2);
+        let asked = Asked::some(panel.depth(), panel.leaves(), random);
+        let mut subject = Subject::made(tally, random, panel.clone());
+        subject.reads(&asked)?;
+        let split = random.once_in(4) != grow;
+        let after = if split { subject.split(node)? } else { subject.merge(node)? };
+        panel = after.unwrap_or(panel);
+    }
+    Ok(())
+}
+
+/// Nodes and numbers all over one panel: all calls to depth 9, those that read above.
+fn all_over(tally: &mut Tally, random: &mut Random, panel: Panel) -> Compared {
+    let asked = Asked::many(panel.depth(), random);
+    let small = panel.depth() <= 9;
+    let mut subject = Subject::made(tally, random, panel);
+    if small {
+        subject.every_call(&asked)
+    } else {
+        subject.reads(&asked)
+    }
+}
+
+pub fn all(tally: &mut Tally, random: &mut Random, cases: usize) -> Compared {
+    for depth in LEAST_DEPTH..=GREATEST_DEPTH {
+        let steps = if depth <= 10 { 4 * cases } else { cases };
+        let fresh = Panel::fresh(depth).expect("a depth in range");
+        run(tally, random, fresh, steps)?;
+        let some = random_panel(depth, random);
+        run(tally, random, some, steps)?;
+        run(tally, random, all_cut(depth), steps)?;
+        let some = random_panel(depth, random);
+        all_over(tally, random, some)?;
+    }
+    Ok(())
+}

@@ -1,0 +1,220 @@
+//! One panel, good or not, and every call on it.
+
+use std::fmt::Debug;
+
+use second::calls::{self, told};
+use second::panel::{depth_of_length, Panel};
+use second::requests::hex;
+use second::Answer;
+
+use crate::exports;
+use crate::frame::Frame;
+use crate::random::Random;
+use crate::tally::{Compared, Difference, Tally};
+
+/// What the calls are asked beside the panel.
+pub struct Asked {
+    pub nodes: Vec<u32>,
+    pub numbers: Vec<u32>,
+    pub depths: Vec<u32>,
+}
+
+/// Numbers that no panel has, at the ends of what a call can be asked.
+const FAR: [u32; 5] = [65_535, 65_536, 1 << 31, (1 << 31) + 2, u32::MAX];
+
+impl Asked {
+    /// Every node, number and depth in and around range.
+    pub fn all(depth: u32) -> Asked {
+        let and_far = |end: u32| (0..=end).chain(FAR).collect();
+        Asked { nodes: and_far((2 << depth) + 2), numbers: and_far((1 << depth) + 2), depths: and_far(17) }
+    }
+
+    /// To depth 11 every node, number and depth in and around range; above, the ends of each range and many between.
+    pub fn many(depth: u32, random: &mut Random) -> Asked {
+        let mut asked = Asked::all(depth);
+        for list in [&mut asked.nodes, &mut asked.numbers] {
+            let last = list.len() - 16;
+            let mut place = 0;
+            list.retain(|_| {
+                place += 1;
+                depth <= 11 || place <= 16 || place > last || random.once_in(1 << (depth - 11))
+            });
+        }
+        asked
+    }
+
+    /// The ends of each range, and a few between. There may be no leaves.
+    pub fn some(depth: u32, leaves: &[u32], random: &mut Random) -> Asked {
+        let (end, count) = (2u32 << depth, leaves.len() as u32);
+        let mut nodes = vec![0, 1, 2, end - 1, end, random.pick(&FAR)];
+        let mut numbers = vec![0, count.saturating_sub(1), count, count + 1, random.pick(&FAR)];
+        for _ in 0..4 {
+            nodes.push(random.below(end as usize) as u32);
+            if count > 0 {
+                nodes.push(random.pick(leaves));
+                numbers.push(random.below(count as usize) as u32);
+            }
+        }
+        let depths = vec![depth, depth - 1, depth + 1, random.below(18) as u32, random.pick(&FAR)];
+        Asked { nodes, numbers, depths }
+    }
+}
+
+/// What a call is asked beside the panel, if anything: its kind and its number.
+type What = Option<(&'static str, u32)>;
+
+/// A panel's bytes between guards, and what the second program reads in them.
+pub struct Subject<'a> {
+    tally: &'a mut Tally,
+    frame: Frame,
+    panel: Answer<Panel>,
+}
+
+impl<'a> Subject<'a> {
+    fn new(tally: &'a mut Tally, random: &mut Random, bytes: &[u8], panel: Answer<Panel>) -> Self {
+        let leaves = panel.as_ref().ok().map(|p| p.leaves().len());
+        tally.panel(depth_of_length(bytes.len()).ok(), leaves);
+        Subject { tally, frame: Frame::around(bytes, random), panel }
+    }
+
+    /// Any bytes.
+    pub fn read(tally: &'a mut Tally, random: &mut Random, bytes: &[u8]) -> Self {
+        Subject::new(tally, random, bytes, Panel::read(bytes))
+    }
+
+    /// A panel that the second program made.
+    pub fn made(tally: &'a mut Tally, random: &mut Random, panel: Panel) -> Self {
+        Subject::new(tally, random, &panel.bytes(), Ok(panel))
+    }
+
+    pub fn is_good(&self) -> bool {
+        self.panel.is_ok()
+    }
+
+    fn asked(what: What, frame: &Frame) -> String {
+        let what = what.map_or(String::new(), |(kind, x)| format!("{kind} {x}, "));
+        format!("{what}panel of {} bytes: {}", frame.original().len(), hex(frame.original()))
+    }
+
+    /// The answers are the same, and the bytes are as the second program leaves them.
+    fn same<T: PartialEq + Debug>(
+        &mut self,
+        call: &'static str,
+        what: What,
+        exports: (u32, T),
+        second: (u32, T),
+        bytes: Option<&[u8]>,
+    ) -> Compared {
+        let spoiled = match bytes {
+            Some(bytes) if exports.0 == 0 => self.frame.restore_from(bytes),
+            _ => self.frame.restore(),
+        };
+        let frame = &self.frame;
+        self.tally.compare(call, exports, second, || Subject::asked(what, frame))?;
+        match spoiled {
+            None => Ok(()),
+            Some(found) => Err(Difference(format!(
+                "{call} leaves other bytes\n  asked:   {}\n  {found}",
+                Subject::asked(what, frame)
+            ))),
+        }
+    }
+
+    /// A call that only reads.
+    fn reading<T: PartialEq + Debug + Default>(
+        &mut self,
+        call: &'static str,
+        what: What,
+        exports: (u32, T),
+        second: impl Fn(&Panel) -> Answer<T>,
+    ) -> Compared {
+        let second = told(self.panel.as_ref().map_err(|refusal| *refusal).and_then(second));
+        self.same(call, what, exports, second, None)
+    }
+
+    pub fn judge(&mut self) -> Compared {
+        let exports = exports::judge(self.frame.lent());
+        self.reading("panel_judge", None, (exports, ()), |_| Ok(()))
+    }
+
+    pub fn count(&mut self) -> Compared {
+        let exports = exports::count(self.frame.lent());
+        self.reading("panel_count", None, exports, |p| Ok(p.leaves().len() as u32))
+    }
+
+    pub fn leaf_bits(&mut self) -> Compared {
+        let exports = exports::leaf_bits(self.frame.lent());
+        let bytes = self.frame.original().len();
+        self.reading("panel_leaf_bits", None, exports, |_| Ok((bytes / 4 * 3, bytes / 4)))
+    }
+
+    pub fn leaf(&mut self, number: u32) -> Compared {
+        let exports = exports::leaf(self.frame.lent(), number);
+        self.reading("panel_leaf", Some(("number", number)), exports, |p| p.leaf_at(number))
+    }
+
+    pub fn number(&mut self, node: u32) -> Compared {
+        let exports = exports::number(self.frame.lent(), node);
+        self.reading("panel_number", Some(("node", node)), exports, |p| p.number_of(node))
+    }
+
+    pub fn open(&mut self, depth: u32) -> Compared {
+        let exports = exports::open(self.frame.lent(), depth);
+        let mut bytes = self.frame.original().to_vec();
+        let second = calls::open(&mut bytes, depth);
+        self.same("panel_open", Some(("depth", depth)), (exports, ()), (second, ()), Some(&bytes))
+    }
+
+    /// What a change makes of the panel, as the second program does it.
+    fn after(&self, change: impl Fn(&mut Panel) -> Answer<()>) -> Answer<Panel> {
+        let mut panel = self.panel.clone()?;
+        change(&mut panel)?;
+        Ok(panel)
+    }
+
+    #[cfg(feature = "changes")]
+    fn changing(&mut self, call: &'static str, node: u32, exports: u32, after: &Answer<Panel>) -> Compared {
+        let second = after.as_ref().err().copied().unwrap_or(0);
+        let bytes = after.as_ref().ok().map(Panel::bytes);
+        self.same(call, Some(("node", node)), (exports, ()), (second, ()), bytes.as_deref())
+    }
+
+    pub fn split(&mut self, node: u32) -> Result<Answer<Panel>, Difference> {
+        let after = self.after(|p| p.split(node));
+        #[cfg(feature = "changes")]
+        {
+            let exports = exports::split(self.frame.lent(), node);
+            self.changing("panel_split", node, exports, &after)?;
+        }
+        Ok(after)
+    }
+
+    pub fn merge(&mut self, node: u32) -> Result<Answer<Panel>, Difference> {
+        let after = self.after(|p| p.merge(node));
+        #[cfg(feature = "changes")]
+        {
+            let exports = exports::merge(self.frame.lent(), node);
+            self.changing("panel_merge", node, exports, &after)?;
+        }
+        Ok(after)
+    }
+
+    /// The calls that read, and open.
+    pub fn reads(&mut self, asked: &Asked) -> Compared {
+        self.judge()?;
+        self.count()?;
+        self.leaf_bits()?;
+        asked.numbers.iter().try_for_each(|number| self.leaf(*number))?;
+        asked.nodes.iter().try_for_each(|node| self.number(*node))?;
+        asked.depths.iter().try_for_each(|depth| self.open(*depth))
+    }
+
+    pub fn every_call(&mut self, asked: &Asked) -> Compared {
+        self.reads(asked)?;
+        for node in &asked.nodes {
+            self.split(*node)?.ok();
+            self.merge(*node)?.ok();
+        }
+        Ok(())
+    }
+}

@@ -1,0 +1,90 @@
+//! What was compared, and the first difference.
+
+use std::collections::BTreeMap;
+use std::fmt::Debug;
+
+use crate::CALLS;
+
+/// The message that says where the two programs differ.
+pub struct Difference(pub String);
+pub type Compared = Result<(), Difference>;
+
+/// The panels compared at one depth.
+#[derive(Default)]
+struct Depth {
+    panels: u64,
+    good: u64,
+    most_leaves: usize,
+}
+
+#[derive(Default)]
+pub struct Tally {
+    answers: BTreeMap<(&'static str, u32), u64>,
+    depths: BTreeMap<u32, Depth>,
+    other_lengths: u64,
+}
+
+impl Tally {
+    /// Counts a case, or says how the two differ. `asked` says what the call was asked.
+    pub fn compare<T: PartialEq + Debug>(
+        &mut self,
+        call: &'static str,
+        exports: (u32, T),
+        second: (u32, T),
+        asked: impl Fn() -> String,
+    ) -> Compared {
+        if exports != second {
+            let line = |(answer, with): (u32, T)| format!("answer {answer} with {with:?}");
+            return Err(Difference(format!(
+                "{call} differs\n  asked:   {}\n  exports: {}\n  second:  {}",
+                asked(),
+                line(exports).trim_end_matches(" with ()"),
+                line(second).trim_end_matches(" with ()")
+            )));
+        }
+        *self.answers.entry((call, second.0)).or_default() += 1;
+        Ok(())
+    }
+
+    /// Counts a panel of a right length, with its leaves if it is good, or one of another length.
+    pub fn panel(&mut self, depth: Option<u32>, leaves: Option<usize>) {
+        match depth {
+            None => self.other_lengths += 1,
+            Some(depth) => {
+                let row = self.depths.entry(depth).or_default();
+                row.panels += 1;
+                row.good += u64::from(leaves.is_some());
+                row.most_leaves = row.most_leaves.max(leaves.unwrap_or(0));
+            }
+        }
+    }
+
+    /// Prints the cases by call and answer; whether every answer that a call has was seen.
+    pub fn print(&self) -> bool {
+        let mut complete = true;
+        for (call, answers) in CALLS {
+            let mut line = format!("{call:<16}");
+            for answer in *answers {
+                let seen = self.answers.get(&(call, *answer)).copied().unwrap_or(0);
+                line += &format!("  {answer}: {seen}");
+                if seen == 0 {
+                    line += " NEVER SEEN";
+                    complete = false;
+                }
+            }
+            println!("{line}");
+        }
+        for (depth, row) in &self.depths {
+            println!(
+                "depth {depth:>2}: {} panels, {} good, up to {} leaves",
+                row.panels, row.good, row.most_leaves
+            );
+        }
+        if self.other_lengths > 0 {
+            println!("other lengths: {} panels", self.other_lengths);
+        }
+        let all: u64 = self.answers.values().sum();
+        println!("{all} cases compared, no difference");
+        complete
+    }
+}

@@ -1,0 +1,74 @@
+/* The panel scanner's calls for C. README.md says what each does, and which are in the archive by now.
+ *
+ * Each call returns the answer's number: PANEL_DONE, or why it is refused. Beside a refusal every number that
+ * a call writes through a pointer is 0, and all bytes of the panel are as before.
+ *
+ * A panel is lent as a pointer and its length in bytes. Pointers are not null, also where the length is 0, and
+ * no two arguments of one call point to the same place. A call keeps no pointer and writes nothing outside
+ * the `length` bytes and the numbers it is asked for.
+ */
+#ifndef PANEL_H
+#define PANEL_H
+
+#include <stddef.h>
+#include <stdint.h>
+
+#ifdef __cplusplus
+extern "C" {
+#endif
+
+/* The lowest number that applies is answered. */
+enum {
+    PANEL_DONE = 0,
+    PANEL_WRONG_LENGTH = 1,      /* length isn't 2^(D-1) for a D of 3 to 14; on open, also a depth out of range or that doesn't fit */
+    PANEL_NOT_GOOD = 2,          /* length fits, panel isn't good */
+    PANEL_NO_SUCH_NODE = 3,      /* node below 2, or above 2^(D+1)-1 (above 32,767 for calls that take no panel) */
+    PANEL_NOT_LEAF = 4,          /* node is in range but isn't a leaf */
+    PANEL_AT_GREATEST_DEPTH = 5, /* leaf is at depth D */
+    PANEL_AT_DEPTH_ONE = 6,      /* leaf is at depth 1 */
+    PANEL_LEAVES_MISSING = 7,    /* leaf is deeper, but not all the leaves the merge needs are there */
+    PANEL_NO_SUCH_NUMBER = 8,    /* leaf number is at or above the count */
+    PANEL_BAD_RECORD = 9         /* given by the program, never by these calls */
+};
+
+/* ---- calls that take no panel: nodes from 2 to 32,767 */
+
+/* The neighbours of a node at its own depth; 0 is none. Answers 0, 3. */
+uint32_t node_neighbours(uint32_t node, uint32_t *left, uint32_t *right, uint32_t *edge);
+
+/* The corners A, B, C of a node's triangle in a panel from (0,0) to (256,256); its long side is A-C. Answers 0, 3. */
+uint32_t node_corners(uint32_t node, uint32_t *ax, uint32_t *ay, uint32_t *bx, uint32_t *by, uint32_t *cx, uint32_t *cy);
+
+/* ---- calls that read a panel */
+
+/* Whether the panel is good. Answers 0, 1, 2. */
+uint32_t panel_judge(const uint8_t *panel, size_t length);
+
+/* The number of leaves. Answers 0, 1, 2. */
+uint32_t panel_count(const uint8_t *panel, size_t length, uint32_t *count);
+
+/* The node of a leaf number, from 0 up, from left to right. Answers 0, 1, 2, 8. */
+uint32_t panel_leaf(const uint8_t *panel, size_t length, uint32_t number, uint32_t *node);
+
+/* The leaf number of a node. Answers 0, 1, 2, 3, 4. */
+uint32_t panel_number(const uint8_t *panel, size_t length, uint32_t node, uint32_t *number);
+
+/* Which bytes of the panel hold the leaf bits: the first, and how many. Answers 0, 1, 2. */
+uint32_t panel_leaf_bits(const uint8_t *panel, size_t length, size_t *first, size_t *bytes);
+
+/* ---- calls that change a panel */
+
+/* Writes every byte: the fresh panel of this depth, with the leaves 2 and 3. Answers 0, 1. */
+uint32_t panel_open(uint8_t *panel, size_t length, uint32_t depth);
+
+/* Cuts a leaf, and what must be cut with it so that the panel stays good. Answers 0, 1, 2, 3, 4, 5. */
+uint32_t panel_split(uint8_t *panel, size_t length, uint32_t node);
+
+/* Takes back the cut that made a leaf, and the one across the long side. Answers 0, 1, 2, 3, 4, 6, 7. */
+uint32_t panel_merge(uint8_t *panel, size_t length, uint32_t node);
+
+#ifdef __cplusplus
+}
+#endif
+
+#endif

@@ -1,0 +1,86 @@
+//! The calls on a lent panel, as the library exports them: an answer's number, and what comes with it.
+//! "Beside a refusal every other number returned is 0, a returned part is empty, and all lent bytes are as before the call."
+
+use crate::panel::{depth_of_length, length_of, Panel};
+use crate::triangles::{self, Neighbours, Triangle};
+use crate::{Answer, WRONG_LENGTH};
+
+/// The answer's number, and the value or, beside a refusal, zeros.
+pub fn told<T: Default>(answer: Answer<T>) -> (u32, T) {
+    match answer {
+        Ok(value) => (0, value),
+        Err(refusal) => (refusal, T::default()),
+    }
+}
+
+pub fn neighbours(node: u32) -> (u32, Neighbours) {
+    told(triangles::neighbours(node))
+}
+
+pub fn corners(node: u32) -> (u32, Triangle) {
+    told(triangles::corners(node))
+}
+
+/// Writes the panel's bytes over the lent ones, which are as many.
+fn store(bytes: &mut [u8], panel: &Panel) {
+    bytes.copy_from_slice(&panel.bytes());
+}
+
+fn try_open(bytes: &mut [u8], depth: u32) -> Answer<()> {
+    let panel = Panel::fresh(depth)?;
+    if bytes.len() != length_of(depth) {
+        return Err(WRONG_LENGTH);
+    }
+    store(bytes, &panel);
+    Ok(())
+}
+
+pub fn open(bytes: &mut [u8], depth: u32) -> u32 {
+    told(try_open(bytes, depth)).0
+}
+
+pub fn judge(bytes: &[u8]) -> u32 {
+    told(Panel::read(bytes).map(|_| ())).0
+}
+
+/// The number of leaves.
+pub fn count(bytes: &[u8]) -> (u32, u32) {
+    told(Panel::read(bytes).map(|panel| panel.leaves().len() as u32))
+}
+
+/// The node of a leaf number.
+pub fn leaf_at(bytes: &[u8], number: u32) -> (u32, u32) {
+    told(Panel::read(bytes).and_then(|panel| panel.leaf_at(number)))
+}
+
+/// The leaf number of a node.
+pub fn number_of(bytes: &[u8], node: u32) -> (u32, u32) {
+    told(Panel::read(bytes).and_then(|panel| panel.number_of(node)))
+}
+
+/// Where the leaf bits start in the bytes, and how many bytes they fill.
+pub fn leaf_bits(bytes: &[u8]) -> (u32, (usize, usize)) {
+    told(Panel::read(bytes).and_then(|_| {
+        let places = 1usize << depth_of_length(bytes.len())?;
+        Ok((3 * places / 8, places / 8))
+    }))
+}
+
+fn change(bytes: &mut [u8], by: impl Fn(&mut Panel) -> Answer<()>) -> u32 {
+    let changed = Panel::read(bytes).and_then(|mut panel| by(&mut panel).map(|()| panel));
+    match changed {
+        Ok(panel) => {
+            store(bytes, &panel);
+            0
+        }
+        Err(refusal) => refusal,
+    }
+}
+
+pub fn split(bytes: &mut [u8], node: u32) -> u32 {
+    change(bytes, |panel| panel.split(node))
+}
+
+pub fn merge(bytes: &mut [u8], node: u32) -> u32 {
+    change(bytes, |panel| panel.merge(node))
+}

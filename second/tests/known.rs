@@ -1,0 +1,168 @@
+//! The values that document 01 gives, and its laws where they can be tried on every node.
+
+use std::collections::BTreeSet;
+
+use second::calls::*;
+use second::panel::{closed, good, with_right_sums, Panel};
+use second::triangles::{depth, neighbours_of, Neighbours};
+
+fn opened(depth: u32) -> Vec<u8> {
+    let mut bytes = vec![0xEE; 1 << (depth - 1)];
+    assert_eq!(open(&mut bytes, depth), 0);
+    bytes
+}
+
+fn after(mut bytes: Vec<u8>, splits: &[u32]) -> Vec<u8> {
+    for node in splits {
+        assert_eq!(split(&mut bytes, *node), 0, "split {node}");
+    }
+    bytes
+}
+
+fn leaves(bytes: &[u8]) -> Vec<u32> {
+    let (answer, many) = count(bytes);
+    assert_eq!(answer, 0);
+    (0..many).map(|n| leaf_at(bytes, n)).map(|(answer, node)| if answer == 0 { node } else { 0 }).collect()
+}
+
+fn all_cut() -> Vec<u8> {
+    after(opened(3), &[2, 4, 5, 6, 7])
+}
+
+#[test]
+fn panels_of_depth_3() {
+    let fresh = opened(3);
+    assert_eq!(fresh, [0x8C, 0x24, 0x11, 0x11]);
+    assert_eq!(leaves(&fresh), [2, 3]);
+    let four = after(fresh, &[2]);
+    assert_eq!(four, [0x0C, 0x49, 0x55, 0x55]);
+    assert_eq!(leaves(&four), [4, 5, 6, 7]);
+    let five = after(four, &[4]);
+    assert_eq!(five, [0x4C, 0x4D, 0x56, 0x57]);
+    assert_eq!(leaves(&five), [8, 9, 5, 6, 7]);
+}
+
+#[test]
+fn all_cut_at_depth_3() {
+    let bytes = all_cut();
+    assert_eq!(bytes, [0x0C, 0x92, 0xAA, 0xFF]);
+    assert_eq!(number_of(&bytes, 15), (0, 7));
+    assert_eq!(number_of(&bytes, 16), (3, 0));
+}
+
+#[test]
+fn a_split_at_depth_4() {
+    let bytes = after(opened(4), &[2, 4]);
+    assert_eq!(leaves(&bytes), [8, 9, 5, 6, 7]);
+    assert_eq!(leaves(&after(bytes, &[8])), [16, 17, 9, 5, 6, 14, 30, 31]);
+}
+
+#[test]
+fn merges() {
+    let mut four = after(opened(3), &[2]);
+    let mut five = after(four.clone(), &[4]);
+    assert_eq!(merge(&mut four, 5), 0);
+    assert_eq!(leaves(&four), [2, 3]);
+    let before = five.clone();
+    assert_eq!(merge(&mut five, 5), 7);
+    assert_eq!(five, before);
+    assert_eq!(merge(&mut five, 9), 0);
+    assert_eq!(leaves(&five), [4, 5, 6, 7]);
+    assert_eq!(merge(&mut opened(3), 2), 6);
+}
+
+#[test]
+fn refusals() {
+    let five = after(opened(3), &[2, 4]);
+    assert_eq!(split(&mut five.clone(), 8), 5);
+    assert_eq!(split(&mut five.clone(), 4), 4);
+    assert_eq!(split(&mut five.clone(), 16), 3);
+    assert_eq!(merge(&mut five.clone(), 1), 3);
+    assert_eq!(leaf_at(&five, 4).0, 0);
+    assert_eq!(leaf_at(&five, 5), (8, 0));
+    for length in [0, 3, 5, 16_384] {
+        assert_eq!(judge(&vec![0; length]), 1);
+        assert_eq!(count(&vec![0; length]), (1, 0));
+        assert_eq!(leaf_bits(&vec![0; length]), (1, (0, 0)));
+    }
+    for spare in 0..2 {
+        let mut bytes = five.clone();
+        bytes[0] += 1 << spare;
+        assert_eq!(judge(&bytes), 2);
+    }
+    assert_eq!(judge(&[3, 0, 0, 0]), 2);
+    for depth in [0, 2, 4, 15, 35] {
+        let mut bytes = five.clone();
+        assert_eq!(open(&mut bytes, depth), 1);
+        assert_eq!(bytes, five);
+    }
+}
+
+#[test]
+fn leaf_bits_fill_whole_bytes() {
+    assert_eq!(leaf_bits(&opened(3)), (0, (3, 1)));
+    assert_eq!(leaf_bits(&opened(14)), (0, (6144, 2048)));
+}
+
+#[test]
+fn seventeen_and_forty_eight() {
+    for (depth, right) in [(3, 17), (4, 48)] {
+        let places = 1u32 << depth;
+        let field = |x: u64| (0..places).map(|p| x >> p & 1 == 1).collect::<Vec<bool>>();
+        let fields = 0..1u64 << places;
+        let good = fields.filter(|x| judge(&with_right_sums(depth, &field(*x))) == 0).count();
+        assert_eq!(good, right);
+    }
+}
+
+#[test]
+fn known_neighbours() {
+    let is = |node, left, right, edge| assert_eq!(neighbours(node), (0, Neighbours { left, right, edge }));
+    is(2, 0, 0, 3);
+    is(3, 0, 0, 2);
+    is(8, 9, 0, 15);
+    is(10, 11, 0, 9);
+    is(17, 30, 16, 18);
+    for node in [0, 1, 32_768, u32::MAX] {
+        assert_eq!(neighbours(node), (3, Neighbours::default()));
+        assert_eq!(corners(node), (3, [[0; 2]; 3]));
+    }
+}
+
+#[test]
+fn shared_sides_follow_the_rules() {
+    for n in 2..16_384 {
+        let Neighbours { left, right, edge } = neighbours_of(n);
+        let right_child = |x: u32| if x == 0 { 0 } else { 2 * x + 1 };
+        let of_left = Neighbours { left: 2 * n + 1, right: right_child(edge), edge: right_child(right) };
+        let of_right = Neighbours { left: 2 * edge, right: 2 * n, edge: 2 * left };
+        assert_eq!(neighbours_of(2 * n), of_left);
+        assert_eq!(neighbours_of(2 * n + 1), of_right);
+    }
+}
+
+#[test]
+fn known_corners() {
+    assert_eq!(corners(2), (0, [[0, 256], [0, 0], [256, 0]]));
+    assert_eq!(corners(3), (0, [[256, 0], [256, 256], [0, 256]]));
+    assert_eq!(corners(10), (0, [[0, 0], [128, 0], [128, 128]]));
+}
+
+#[test]
+fn areas() {
+    for node in 2..32_768 {
+        let [a, b, c] = corners(node).1.map(|p| p.map(i64::from));
+        let twice = (b[0] - a[0]) * (c[1] - a[1]) - (c[0] - a[0]) * (b[1] - a[1]);
+        assert_eq!(twice.abs(), 1 << (17 - depth(node)));
+    }
+}
+
+#[test]
+fn the_smallest_good_set() {
+    let cuts = closed(&BTreeSet::from([8]));
+    assert_eq!(cuts, BTreeSet::from([1, 2, 3, 4, 7, 8, 15]));
+    assert!(good(&cuts));
+    let panel = Panel::holding(4, &BTreeSet::from([8]));
+    assert_eq!(panel.leaves(), [16, 17, 9, 5, 6, 14, 30, 31]);
+    assert_eq!(Panel::read(&panel.bytes()), Ok(panel));
+}

@@ -1,0 +1,70 @@
+//! Request files: document 01's example, and what its rules say at the limits.
+
+use second::requests::{records_of_text, run, text_of_records};
+
+fn printed(text: &str) -> String {
+    run(&records_of_text(text).unwrap()).printed()
+}
+
+#[test]
+fn the_example() {
+    assert_eq!(
+        printed("open 3\nsplit 2\nsplit 8\nsplit 4\n"),
+        "1 0\n2 0\n3 4\n4 0\n0 8\n1 9\n2 5\n3 6\n4 7\n"
+    );
+}
+
+#[test]
+fn nothing_for_nothing() {
+    assert_eq!(printed(""), "");
+}
+
+#[test]
+fn before_an_open() {
+    assert_eq!(printed("split 2\nmerge 2\nopen 15\nopen 2\n"), "1 1\n2 1\n3 1\n4 1\n");
+}
+
+#[test]
+fn a_refused_open_keeps_the_panel() {
+    assert_eq!(printed("open 3\nsplit 2\nopen 99"), "1 0\n2 0\n3 1\n0 4\n1 5\n2 6\n3 7\n");
+    assert_eq!(printed("open 3\nsplit 2\nopen 5"), "1 0\n2 0\n3 0\n0 2\n1 3\n");
+}
+
+#[test]
+fn bad_records_come_first() {
+    let text = "bytes 03 00 00 00 03 00 00 00\nbytes 01 00 00 01 02 00 00 00\nopen 3\nbytes 00 01 00 00 04 00 00 00\nbytes 00 00";
+    assert_eq!(printed(text), "1 9\n2 9\n3 0\n4 9\n5 9\n0 2\n1 3\n");
+}
+
+#[test]
+fn the_limit() {
+    let many = |n: usize| records_of_text(&"open 3\n".repeat(n)).unwrap();
+    assert_eq!(run(&many(4096)).answers.len(), 4096);
+    assert_eq!(run(&many(4097)).answers.len(), 4096);
+    assert_eq!(run(&[many(4096), vec![7]].concat()).answers.len(), 4096);
+    let short = run(&[many(4095), vec![7]].concat()).answers;
+    assert_eq!((short.len(), short[4095]), (4096, 9));
+}
+
+#[test]
+fn text_there_and_back() {
+    let text = "open 3\nsplit 4294967295\nmerge 5\nbytes 03 00 00 00 05 00 00 00\nbytes FF 00 0A\n";
+    let records = records_of_text(text).unwrap();
+    assert_eq!(records.len(), 35);
+    assert_eq!(records[8..16], [1, 0, 0, 0, 0xFF, 0xFF, 0xFF, 0xFF]);
+    assert_eq!(text_of_records(&records), text);
+    assert_eq!(records_of_text(" open  3 # the panel\n\n# no more\r\n").unwrap(), [0, 0, 0, 0, 3, 0, 0, 0]);
+}
+
+#[test]
+fn wrong_text_is_named() {
+    let wrong = |text| records_of_text(text).unwrap_err();
+    assert_eq!(wrong("open 3\nsplt 2"), "line 2: 'splt' is none of open, split, merge, bytes");
+    assert_eq!(wrong("open"), "line 1: 'open' takes one depth");
+    assert_eq!(wrong("split 2 3"), "line 1: 'split' takes one node");
+    assert_eq!(wrong("merge 4294967296"), "line 1: '4294967296' is no node from 0 to 4294967295");
+    assert_eq!(wrong("open +3"), "line 1: '+3' is no depth from 0 to 4294967295");
+    assert_eq!(wrong("bytes"), "line 1: 'bytes' takes 1 to 8 bytes, not 0");
+    assert_eq!(wrong("bytes +1"), "line 1: '+1' is no byte of two digits from 00 to FF");
+    assert_eq!(wrong("bytes 01\nopen 3"), "line 2: nothing may follow a record of fewer than 8 bytes");
+}
