@@ -10,7 +10,9 @@ fn main() {
         let archive = folder.join(format!("lib{name}.a"));
         println!("cargo:rerun-if-changed={}", archive.display());
         if !archive.exists() {
-            println!("cargo:warning=target/staticlib/lib{name}.a is not there: run `rt staticlib {name}` first");
+            println!(
+                "cargo:warning=target/staticlib/lib{name}.a is not there: run `rt staticlib {name}` first"
+            );
         }
         println!("cargo:rustc-link-lib=static={name}");
     }

@@ -49,7 +49,12 @@ pub fn make(deep: u32, kind: Kind) {
         }
     });
     for (asked, start, one, other) in [
-        (&split, &cuttable, ours::split as fn(&mut [u8], u32, u32) -> u32, ordinary::ordinary_split as fn(&mut [u8], u32, u32)),
+        (
+            &split,
+            &cuttable,
+            ours::split as fn(&mut [u8], u32, u32) -> u32,
+            ordinary::ordinary_split as fn(&mut [u8], u32, u32),
+        ),
         (&merge, &panel, ours::merge, ordinary::ordinary_merge),
     ] {
         for k in asked {

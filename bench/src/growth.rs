@@ -16,6 +16,7 @@ pub fn print(long: Duration) {
             let judge = |p: &mut Panel| assert_eq!(ours::judge(p.lent()), 0);
             let make = |p: &mut Panel| ours::make_sums(p.lent_mut(), deep);
             let times = least(&mut panel, 1, long, |_| {}, judge, make);
+            // Here the two sides are two of ours.
             let (judge, make) = (times.ours, times.ordinary);
             let a_byte = |t: f64| t / bytes as f64;
             println!(

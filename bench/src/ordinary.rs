@@ -85,7 +85,8 @@ pub fn ordinary_sums_by_row(bytes: &mut [u8], deep: u32) {
     let at = bytes.as_mut_ptr();
     for d in (0..deep).rev() {
         let bits = (deep - d) as usize;
-        let (mut from, mut to) = ((4usize << d) + (2usize << d) * bits, (2usize << d) + (1usize << d) * (bits + 1));
+        let (mut from, mut to) =
+            ((4usize << d) + (2usize << d) * bits, (2usize << d) + (1usize << d) * (bits + 1));
         for _ in 0..1u32 << d {
             // SAFETY: as above.
             unsafe {
@@ -196,7 +197,9 @@ pub fn ordinary_corners_by_matrices(node: u32) -> Triangle {
         matrix = times(&CHILDREN[((node >> level) & 1) as usize], &matrix);
     }
     let first = if (node >> levels) & 1 == 0 { LOWER } else { UPPER };
-    matrix.map(|row| [0, 1].map(|i| row.iter().zip(first).map(|(part, p)| part * p[i] as f32).sum::<f32>() as u32))
+    matrix.map(|row| {
+        [0, 1].map(|i| row.iter().zip(first).map(|(part, p)| part * p[i] as f32).sum::<f32>() as u32)
+    })
 }
 
 /// Algorithm 12: sets the leaf bit of the right child.

@@ -8,7 +8,13 @@ mod raw {
         pub fn measure_judge(panel: *const u8, len: usize) -> u32;
         pub fn measure_edge(node: u32) -> u32;
         pub fn measure_leaf_at(panel: *const u8, len: usize, deep: usize, number: u32) -> u32;
-        pub fn measure_leaf_toward(panel: *const u8, len: usize, deep: usize, node: u32, number: *mut u32) -> u32;
+        pub fn measure_leaf_toward(
+            panel: *const u8,
+            len: usize,
+            deep: usize,
+            node: u32,
+            number: *mut u32,
+        ) -> u32;
         pub fn measure_split(panel: *mut u8, len: usize, deep: usize, node: u32) -> u32;
         pub fn measure_merge(panel: *mut u8, len: usize, deep: usize, node: u32) -> u32;
         pub fn node_neighbours(node: u32, left: *mut u32, right: *mut u32, edge: *mut u32) -> u32;
@@ -49,7 +55,8 @@ pub fn leaf(panel: &[u8], deep: u32, number: u32) -> u32 {
 /// The leaf at or above a node, and its number.
 pub fn leaf_toward(panel: &[u8], deep: u32, node: u32) -> (u32, u32) {
     let mut number = 0;
-    let leaf = unsafe { raw::measure_leaf_toward(panel.as_ptr(), panel.len(), deep as usize, node, &mut number) };
+    let leaf =
+        unsafe { raw::measure_leaf_toward(panel.as_ptr(), panel.len(), deep as usize, node, &mut number) };
     (leaf, number)
 }
 

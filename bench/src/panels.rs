@@ -49,7 +49,8 @@ impl Panel {
     fn refine(&mut self, chosen: impl Fn(ordinary::Triangle) -> bool) {
         loop {
             let asked: Vec<u32> = self.leaves();
-            let asked = asked.iter().filter(|k| depth(**k) < self.deep && chosen(ordinary::ordinary_corners(**k)));
+            let asked =
+                asked.iter().filter(|k| depth(**k) < self.deep && chosen(ordinary::ordinary_corners(**k)));
             let mut any = false;
             for node in asked {
                 ordinary::cut(&mut self.bytes, self.deep, *node);
