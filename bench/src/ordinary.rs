@@ -56,7 +56,7 @@ pub fn ordinary_leaf(bytes: &[u8], deep: u32, number: u32) -> u32 {
     while word(bytes, deep, node) > 1 {
         let left = word(bytes, deep, 2 * node);
         if number < left {
-            node = 2 * node;
+            node *= 2;
         } else {
             number -= left;
             node = 2 * node + 1;
