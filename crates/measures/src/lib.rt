@@ -1,4 +1,5 @@
 // Functions that are no public calls, exported for measuring alone.
+use nodes::LeafNumber;
 use nodes::Node;
 ghost use mathlib.Core.Path.{_≡_};
 ghost use Prim.Native.Nat.{_^_, _≤_, _<_};
@@ -7,7 +8,9 @@ ghost use Rattle.nodes.specs.Refusals.{answerNumber};
 ghost use Rattle.nodes.specs.Table.{Says};
 ghost use Rattle.sums.specs.Words.{Room};
 ghost use Rattle.sums.specs.Sums.{Right, Summed};
-ghost use Rattle.panel.specs.Calls.{Judged};
+ghost use Rattle.panel.specs.Panels.{deepOf, Good, InRange, leafCount};
+ghost use Rattle.panel.specs.Calls.{Judged, LeafNumbered, Split, Merge};
+ghost use Rattle.panel.specs.Descents.{OnFirstWay};
 
 #[no_mangle]
 pub extern "C" fn measure_all_right(bytes: &[u8], deep: usize) -> bool
@@ -38,4 +41,41 @@ pub extern "C" fn measure_edge(node: u32) -> u32
     ensures { λ r. ⌜ r ≡ edge node ⌝ }
 {
     nodes::edge_of(Node(node))
+}
+
+#[no_mangle]
+pub extern "C" fn measure_leaf_at(panel: &[u8], deep: usize, number: u32) -> u32
+    requires { ⌜ Good (now panel) × (deep ≡ deepOf (now panel)) × (number < leafCount (now panel)) ⌝ }
+    ensures { λ r. ⌜ LeafNumbered (now (panel .entry)) number r ⌝ }
+{
+    let k = panel::judged::leaf_at(panel, deep, LeafNumber(number));
+    k.0
+}
+
+#[no_mangle]
+pub extern "C" fn measure_leaf_toward(panel: &[u8], deep: usize, node: u32, number: &mut u32) -> u32
+    requires { ⌜ Good (now panel) × (deep ≡ deepOf (now panel)) × InRange (now panel) node ⌝ }
+    ensures { λ r. ⌜ OnFirstWay (now (panel .entry)) node r (now (number .exit)) ⌝ }
+{
+    let s = panel::judged::leaf_toward(panel, deep, Node(node));
+    *number = s.number.0;
+    s.node.0
+}
+
+#[no_mangle]
+pub extern "C" fn measure_split(panel: &mut [u8], deep: usize, node: u32) -> u32
+    requires { ⌜ Good (now panel) × (deep ≡ deepOf (now panel)) ⌝ }
+    ensures { λ r. ⌜ Split (now (panel .entry)) node r (now (panel .exit)) ⌝ }
+{
+    let a = panel::judged::split(panel, deep, Node(node));
+    a.number()
+}
+
+#[no_mangle]
+pub extern "C" fn measure_merge(panel: &mut [u8], deep: usize, node: u32) -> u32
+    requires { ⌜ Good (now panel) × (deep ≡ deepOf (now panel)) ⌝ }
+    ensures { λ r. ⌜ Merge (now (panel .entry)) node r (now (panel .exit)) ⌝ }
+{
+    let a = panel::judged::merge(panel, deep, Node(node));
+    a.number()
 }

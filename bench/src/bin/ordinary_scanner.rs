@@ -1,0 +1,29 @@
+//! The scanner program as one writes it with no checks: each record is taken to be a good one that asks for what is allowed.
+
+use std::io::{self, BufWriter, Read, Write};
+
+use bench::ordinary;
+
+fn main() -> io::Result<()> {
+    let mut input = Vec::new();
+    io::stdin().lock().take(8 * 4096).read_to_end(&mut input)?;
+    let mut out = BufWriter::new(io::stdout().lock());
+    let mut bytes = [0; (1 << 13) + ordinary::SPARE];
+    let mut deep = 0;
+    for (i, record) in input.chunks_exact(8).enumerate() {
+        let number = u32::from_le_bytes([record[4], record[5], record[6], record[7]]);
+        match record[0] {
+            0 => {
+                deep = number;
+                ordinary::open(&mut bytes, deep);
+            }
+            1 => ordinary::ordinary_split(&mut bytes, deep, number),
+            _ => ordinary::ordinary_merge(&mut bytes, deep, number),
+        }
+        writeln!(out, "{} 0", i + 1)?;
+    }
+    for i in 0..ordinary::count(&bytes, deep) {
+        writeln!(out, "{i} {}", ordinary::ordinary_leaf(&bytes, deep, i))?;
+    }
+    out.flush()
+}

@@ -1,0 +1,30 @@
+//! Cost in step with the panel's bytes: nanoseconds a byte, from depth 6 to 14.
+
+use std::time::Duration;
+
+use bench::ours;
+use bench::panels::{Panel, KINDS};
+use bench::timing::least;
+
+pub fn print(long: Duration) {
+    println!("| D | bytes | panel | judge, ns | ns a byte | making all sums, ns | ns a byte |");
+    println!("|---|---|---|---|---|---|---|");
+    for deep in 6..=14 {
+        for kind in KINDS {
+            let mut panel = Panel::new(deep, kind);
+            let bytes = panel.lent().len();
+            let judge = |p: &mut Panel| assert_eq!(ours::judge(p.lent()), 0);
+            let make = |p: &mut Panel| ours::make_sums(p.lent_mut(), deep);
+            let times = least(&mut panel, 1, long, |_| {}, judge, make);
+            // Here the two sides are two of ours.
+            let (judge, make) = (times.ours, times.ordinary);
+            let a_byte = |t: f64| t / bytes as f64;
+            println!(
+                "| {deep} | {bytes} | {} | {judge:.0} | {:.2} | {make:.0} | {:.2} |",
+                kind.name(),
+                a_byte(judge),
+                a_byte(make)
+            );
+        }
+    }
+}

@@ -1,0 +1,6 @@
+//! The proved calls and, beside them, the paper's algorithms in ordinary Rust; panels to measure them on.
+
+pub mod ordinary;
+pub mod ours;
+pub mod panels;
+pub mod timing;

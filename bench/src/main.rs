@@ -1,0 +1,50 @@
+//! Measures the proved calls beside an ordinary Rust version of the paper's algorithms. `bench/run` builds and runs all of it.
+//!
+//!     bench ratios [--quick]    the table of times and ratios; both sides are checked to compute the same
+//!     bench growth [--quick]    judging and making sums, in nanoseconds a byte, from depth 6 to 14
+//!     bench scanner [--quick]   the scanner on 4,096 records beside two other programs
+//!     bench calls KIND DEPTH    the calls whose instructions bench/counts counts; KIND is fresh, adaptive or full
+//!
+//! Exit status: 0 done; 2 wrong arguments. It stops where the two sides differ.
+
+mod calls;
+mod growth;
+mod ratios;
+mod rows;
+mod scanner;
+
+use std::process::ExitCode;
+use std::time::Duration;
+
+use bench::panels::Kind;
+
+fn main() -> ExitCode {
+    let words: Vec<String> = std::env::args().skip(1).collect();
+    let words: Vec<&str> = words.iter().map(String::as_str).collect();
+    let quick = words.last() == Some(&"--quick");
+    let long = Duration::from_millis(if quick { 10 } else { 250 });
+    match words.as_slice() {
+        ["ratios"] | ["ratios", "--quick"] => ratios::print(long),
+        ["growth"] | ["growth", "--quick"] => growth::print(long),
+        ["scanner"] | ["scanner", "--quick"] => scanner::print(if quick { 3 } else { 15 }),
+        ["calls", kind, depth] => {
+            let kind = match *kind {
+                "fresh" => Kind::Fresh,
+                "adaptive" => Kind::Adaptive,
+                "full" => Kind::Full,
+                _ => return wrong(),
+            };
+            match depth.parse() {
+                Ok(deep) if (6..=14).contains(&deep) => calls::make(deep, kind),
+                _ => return wrong(),
+            }
+        }
+        _ => return wrong(),
+    }
+    ExitCode::SUCCESS
+}
+
+fn wrong() -> ExitCode {
+    eprintln!("bench ratios|growth|scanner [--quick], or bench calls fresh|adaptive|full DEPTH (6 to 14)");
+    ExitCode::from(2)
+}

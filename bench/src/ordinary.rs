@@ -1,0 +1,284 @@
+//! The paper's algorithms (document 001) as one writes them in Rust for speed: every word is read through one 64-bit window, the
+//! panel and the numbers are trusted, nothing is checked. The bytes have eight more behind the panel's last, for the window.
+//!
+//! Each is one function that is not inlined, under a name that the instruction counts find, as the proved calls are.
+
+/// Bytes behind the panel's last that a window may read and write back as they were.
+pub const SPARE: usize = 8;
+
+#[inline(always)]
+fn depth(node: u32) -> u32 {
+    31 - node.leading_zeros()
+}
+
+/// Where a word starts and how many bits it has (section 3.3).
+#[inline(always)]
+fn place(deep: u32, node: u32) -> (usize, u32) {
+    let d = depth(node);
+    let bits = deep - d + 1;
+    ((2usize << d) + node as usize * bits as usize, bits)
+}
+
+#[inline(always)]
+fn word(bytes: &[u8], deep: u32, node: u32) -> u32 {
+    let (start, bits) = place(deep, node);
+    // SAFETY: a word ends inside the panel, so its window ends inside the spare bytes.
+    let window = unsafe { bytes.as_ptr().add(start / 8).cast::<u64>().read_unaligned() };
+    ((window >> (start % 8)) & ((1 << bits) - 1)) as u32
+}
+
+#[inline(always)]
+fn put_word(bytes: &mut [u8], deep: u32, node: u32, value: u32) {
+    let (start, bits) = place(deep, node);
+    let mask = ((1u64 << bits) - 1) << (start % 8);
+    // SAFETY: as above.
+    unsafe {
+        let at = bytes.as_mut_ptr().add(start / 8).cast::<u64>();
+        let window = at.read_unaligned();
+        at.write_unaligned((window & !mask) | (u64::from(value) << (start % 8)));
+    }
+}
+
+/// The byte of a leaf bit, and the bit's weight in it.
+#[inline(always)]
+fn leaf_bit(bytes: &mut [u8], deep: u32, node: u32) -> (&mut u8, u8) {
+    let bit = (2usize << deep) + ((node as usize) << (deep - depth(node)));
+    // SAFETY: the leaf bits are the panel's last.
+    (unsafe { bytes.get_unchecked_mut(bit / 8) }, 1 << (bit % 8))
+}
+
+/// Algorithm 1, with the left child's word both compared and subtracted.
+#[no_mangle]
+#[inline(never)]
+pub fn ordinary_leaf(bytes: &[u8], deep: u32, number: u32) -> u32 {
+    let mut number = number;
+    let mut node = 1;
+    while word(bytes, deep, node) > 1 {
+        let left = word(bytes, deep, 2 * node);
+        if number < left {
+            node *= 2;
+        } else {
+            number -= left;
+            node = 2 * node + 1;
+        }
+    }
+    node
+}
+
+/// Algorithm 2.
+#[no_mangle]
+#[inline(never)]
+pub fn ordinary_sums(bytes: &mut [u8], deep: u32) {
+    for d in (0..deep).rev() {
+        for node in 1u32 << d..2 << d {
+            let sum = word(bytes, deep, 2 * node) + word(bytes, deep, 2 * node + 1);
+            put_word(bytes, deep, node, sum);
+        }
+    }
+}
+
+/// Algorithm 2 with the place of each word taken from the row, not from its number: the same sums with less work. No target
+/// is held to it; it is there to see how much of a gain anyone has for that step.
+#[no_mangle]
+#[inline(never)]
+pub fn ordinary_sums_by_row(bytes: &mut [u8], deep: u32) {
+    let at = bytes.as_mut_ptr();
+    for d in (0..deep).rev() {
+        let bits = (deep - d) as usize;
+        let (mut from, mut to) =
+            ((4usize << d) + (2usize << d) * bits, (2usize << d) + (1usize << d) * (bits + 1));
+        for _ in 0..1u32 << d {
+            // SAFETY: as above.
+            unsafe {
+                let read = |start: usize| at.add(start / 8).cast::<u64>().read_unaligned() >> (start % 8);
+                let mask = (1u64 << bits) - 1;
+                let sum = (read(from) & mask) + (read(from + bits) & mask);
+                let put = at.add(to / 8).cast::<u64>();
+                let window = put.read_unaligned();
+                let here = ((1u64 << (bits + 1)) - 1) << (to % 8);
+                put.write_unaligned((window & !here) | (sum << (to % 8)));
+            }
+            from += 2 * bits;
+            to += bits + 1;
+        }
+    }
+}
+
+/// A node and its neighbours; 0 is none.
+#[derive(Clone, Copy)]
+#[repr(C)]
+pub struct Around {
+    pub left: u32,
+    pub right: u32,
+    pub edge: u32,
+    pub node: u32,
+}
+
+/// "the algebraic rule 2∅ = ∅ + 1 = ∅"
+#[inline(always)]
+fn right_child(node: u32) -> u32 {
+    2 * node + u32::from(node != 0)
+}
+
+#[inline(always)]
+fn around(node: u32) -> Around {
+    let levels = depth(node) - 1;
+    let first = node >> levels;
+    let mut n = Around { left: 0, right: 0, edge: 5 - first, node: first };
+    for level in (0..levels).rev() {
+        n = if (node >> level) & 1 == 0 {
+            Around {
+                left: 2 * n.node + 1,
+                right: right_child(n.edge),
+                edge: right_child(n.right),
+                node: 2 * n.node,
+            }
+        } else {
+            Around { left: 2 * n.edge, right: 2 * n.node, edge: 2 * n.left, node: 2 * n.node + 1 }
+        };
+    }
+    n
+}
+
+/// Algorithm 6, from (∅, ∅, 3, 2) or (∅, ∅, 2, 3), as section 5.3 has it for a square.
+#[no_mangle]
+#[inline(never)]
+pub fn ordinary_neighbours(node: u32) -> Around {
+    around(node)
+}
+
+/// Three points of two coordinates.
+pub type Triangle = [[u32; 2]; 3];
+
+const LOWER: Triangle = [[0, 256], [0, 0], [256, 0]];
+const UPPER: Triangle = [[256, 0], [256, 256], [0, 256]];
+
+/// Algorithm 5 with each matrix of formula 3 applied to the corners at once: the same points, without a product of matrices.
+#[no_mangle]
+#[inline(never)]
+pub fn ordinary_corners(node: u32) -> Triangle {
+    let levels = depth(node) - 1;
+    let [mut a, mut b, mut c] = if (node >> levels) & 1 == 0 { LOWER } else { UPPER };
+    for level in (0..levels).rev() {
+        let middle = [(a[0] + c[0]) / 2, (a[1] + c[1]) / 2];
+        if (node >> level) & 1 == 0 {
+            c = b;
+        } else {
+            a = b;
+        }
+        b = middle;
+    }
+    [a, b, c]
+}
+
+type Matrix = [[f32; 3]; 3];
+
+const CHILDREN: [Matrix; 2] =
+    [[[1., 0., 0.], [0.5, 0., 0.5], [0., 1., 0.]], [[0., 1., 0.], [0.5, 0., 0.5], [0., 0., 1.]]];
+
+#[inline(always)]
+fn times(a: &Matrix, b: &Matrix) -> Matrix {
+    let mut product = [[0.; 3]; 3];
+    for (row, of_a) in product.iter_mut().zip(a) {
+        for (column, sum) in row.iter_mut().enumerate() {
+            *sum = of_a[0] * b[0][column] + of_a[1] * b[1][column] + of_a[2] * b[2][column];
+        }
+    }
+    product
+}
+
+/// Algorithm 5 as it stands: the product of the matrices on the way, and then the corners.
+#[no_mangle]
+#[inline(never)]
+pub fn ordinary_corners_by_matrices(node: u32) -> Triangle {
+    let levels = depth(node) - 1;
+    let mut matrix = [[1., 0., 0.], [0., 1., 0.], [0., 0., 1.]];
+    for level in (0..levels).rev() {
+        matrix = times(&CHILDREN[((node >> level) & 1) as usize], &matrix);
+    }
+    let first = if (node >> levels) & 1 == 0 { LOWER } else { UPPER };
+    matrix.map(|row| {
+        [0, 1].map(|i| row.iter().zip(first).map(|(part, p)| part * p[i] as f32).sum::<f32>() as u32)
+    })
+}
+
+/// Algorithm 12: sets the leaf bit of the right child.
+#[inline(always)]
+fn split_node(bytes: &mut [u8], deep: u32, node: u32) {
+    let (byte, weight) = leaf_bit(bytes, deep, 2 * node + 1);
+    *byte |= weight;
+}
+
+/// Algorithm 12: clears the leaf bit of the right one of a node and its sibling.
+#[inline(always)]
+fn merge_node(bytes: &mut [u8], deep: u32, node: u32) {
+    let (byte, weight) = leaf_bit(bytes, deep, node | 1);
+    *byte &= !weight;
+}
+
+/// Algorithm 7, the cuts alone.
+#[inline(always)]
+pub fn cut(bytes: &mut [u8], deep: u32, node: u32) {
+    split_node(bytes, deep, node);
+    let mut node = around(node).edge;
+    while node > 1 {
+        split_node(bytes, deep, node);
+        node /= 2;
+        split_node(bytes, deep, node);
+        node = if node > 1 { around(node).edge } else { 0 };
+    }
+}
+
+/// Algorithm 7, then all sums.
+#[no_mangle]
+#[inline(never)]
+pub fn ordinary_split(bytes: &mut [u8], deep: u32, node: u32) {
+    cut(bytes, deep, node);
+    ordinary_sums(bytes, deep);
+}
+
+/// Algorithm 8, then all sums. At the border there is no pair across.
+#[no_mangle]
+#[inline(never)]
+pub fn ordinary_merge(bytes: &mut [u8], deep: u32, node: u32) {
+    let across = around(node / 2).edge;
+    let leaf = |node| word(bytes, deep, node) == 1;
+    if leaf(node ^ 1) && (across == 0 || (leaf(2 * across) && leaf(2 * across + 1))) {
+        merge_node(bytes, deep, node);
+        if across != 0 {
+            merge_node(bytes, deep, 2 * across + 1);
+        }
+        ordinary_sums(bytes, deep);
+    }
+}
+
+/// Algorithm 13, with the node's own last digit tested.
+#[no_mangle]
+#[inline(never)]
+pub fn ordinary_number(bytes: &[u8], deep: u32, node: u32) -> u32 {
+    let mut number = 0;
+    let mut node = node;
+    while node > 1 {
+        if node & 1 == 1 {
+            number += word(bytes, deep, node ^ 1);
+        }
+        node /= 2;
+    }
+    number
+}
+
+/// Algorithm 10: the number of leaves.
+pub fn count(bytes: &[u8], deep: u32) -> u32 {
+    word(bytes, deep, 1)
+}
+
+/// A fresh panel: the depth word, the leaves 2 and 3, all sums.
+pub fn open(bytes: &mut [u8], deep: u32) {
+    bytes.fill(0);
+    bytes[..4].copy_from_slice(&(deep << 2).to_le_bytes());
+    for node in [2, 3] {
+        let (byte, weight) = leaf_bit(bytes, deep, node);
+        *byte |= weight;
+    }
+    ordinary_sums(bytes, deep);
+}

@@ -1,0 +1,81 @@
+//! The proved calls. Nothing checks these declarations against the proved source: they are crates/measures' and include/panel.h's.
+//! A call of crates/measures trusts its caller: the bytes are a good panel of that depth.
+
+mod raw {
+    extern "C" {
+        pub fn measure_all_right(bytes: *const u8, len: usize, deep: usize) -> bool;
+        pub fn measure_make_sums(bytes: *mut u8, len: usize, deep: usize);
+        pub fn measure_judge(panel: *const u8, len: usize) -> u32;
+        pub fn measure_edge(node: u32) -> u32;
+        pub fn measure_leaf_at(panel: *const u8, len: usize, deep: usize, number: u32) -> u32;
+        pub fn measure_leaf_toward(
+            panel: *const u8,
+            len: usize,
+            deep: usize,
+            node: u32,
+            number: *mut u32,
+        ) -> u32;
+        pub fn measure_split(panel: *mut u8, len: usize, deep: usize, node: u32) -> u32;
+        pub fn measure_merge(panel: *mut u8, len: usize, deep: usize, node: u32) -> u32;
+        pub fn node_neighbours(node: u32, left: *mut u32, right: *mut u32, edge: *mut u32) -> u32;
+        pub fn node_corners(
+            node: u32,
+            ax: *mut u32,
+            ay: *mut u32,
+            bx: *mut u32,
+            by: *mut u32,
+            cx: *mut u32,
+            cy: *mut u32,
+        ) -> u32;
+    }
+}
+
+// SAFETY of all: the pointers are to live numbers and bytes of their own, and the panels here are good ones of their depth.
+
+pub fn all_right(panel: &[u8], deep: u32) -> bool {
+    unsafe { raw::measure_all_right(panel.as_ptr(), panel.len(), deep as usize) }
+}
+
+pub fn make_sums(panel: &mut [u8], deep: u32) {
+    unsafe { raw::measure_make_sums(panel.as_mut_ptr(), panel.len(), deep as usize) }
+}
+
+pub fn judge(panel: &[u8]) -> u32 {
+    unsafe { raw::measure_judge(panel.as_ptr(), panel.len()) }
+}
+
+pub fn edge(node: u32) -> u32 {
+    unsafe { raw::measure_edge(node) }
+}
+
+pub fn leaf(panel: &[u8], deep: u32, number: u32) -> u32 {
+    unsafe { raw::measure_leaf_at(panel.as_ptr(), panel.len(), deep as usize, number) }
+}
+
+/// The leaf at or above a node, and its number.
+pub fn leaf_toward(panel: &[u8], deep: u32, node: u32) -> (u32, u32) {
+    let mut number = 0;
+    let leaf =
+        unsafe { raw::measure_leaf_toward(panel.as_ptr(), panel.len(), deep as usize, node, &mut number) };
+    (leaf, number)
+}
+
+pub fn split(panel: &mut [u8], deep: u32, node: u32) -> u32 {
+    unsafe { raw::measure_split(panel.as_mut_ptr(), panel.len(), deep as usize, node) }
+}
+
+pub fn merge(panel: &mut [u8], deep: u32, node: u32) -> u32 {
+    unsafe { raw::measure_merge(panel.as_mut_ptr(), panel.len(), deep as usize, node) }
+}
+
+pub fn neighbours(node: u32) -> [u32; 3] {
+    let [mut left, mut right, mut edge] = [0; 3];
+    unsafe { raw::node_neighbours(node, &mut left, &mut right, &mut edge) };
+    [left, right, edge]
+}
+
+pub fn corners(node: u32) -> [[u32; 2]; 3] {
+    let [[mut ax, mut ay], [mut bx, mut by], [mut cx, mut cy]] = [[0; 2]; 3];
+    unsafe { raw::node_corners(node, &mut ax, &mut ay, &mut bx, &mut by, &mut cx, &mut cy) };
+    [[ax, ay], [bx, by], [cx, cy]]
+}

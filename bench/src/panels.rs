@@ -1,0 +1,112 @@
+//! Panels to measure on, and the numbers and nodes that the calls are asked for.
+
+use crate::{ordinary, ours};
+
+/// How much of a panel is cut.
+#[derive(Clone, Copy, PartialEq)]
+pub enum Kind {
+    /// Two leaves.
+    Fresh,
+    /// Refined along one side: every leaf that touches it is as deep as can be.
+    Adaptive,
+    /// Every leaf is as deep as can be.
+    Full,
+}
+
+pub const KINDS: [Kind; 3] = [Kind::Fresh, Kind::Adaptive, Kind::Full];
+
+impl Kind {
+    pub fn name(self) -> &'static str {
+        match self {
+            Kind::Fresh => "fresh",
+            Kind::Adaptive => "adaptive",
+            Kind::Full => "fully cut",
+        }
+    }
+}
+
+/// A good panel with the spare bytes that the ordinary version reads.
+#[derive(Clone)]
+pub struct Panel {
+    pub deep: u32,
+    pub bytes: Vec<u8>,
+}
+
+impl Panel {
+    pub fn new(deep: u32, kind: Kind) -> Panel {
+        let mut panel = Panel { deep, bytes: vec![0; (1 << (deep - 1)) + ordinary::SPARE] };
+        ordinary::open(&mut panel.bytes, deep);
+        match kind {
+            Kind::Fresh => {}
+            Kind::Adaptive => panel.refine(|[a, b, c]| a[0] == 0 || b[0] == 0 || c[0] == 0),
+            Kind::Full => panel.refine(|_| true),
+        }
+        assert_eq!(ours::judge(panel.lent()), 0, "the panel is good");
+        panel
+    }
+
+    /// Splits leaves that are chosen by their corners until all that are left have the greatest depth.
+    fn refine(&mut self, chosen: impl Fn(ordinary::Triangle) -> bool) {
+        loop {
+            let asked: Vec<u32> = self.leaves();
+            let asked =
+                asked.iter().filter(|k| depth(**k) < self.deep && chosen(ordinary::ordinary_corners(**k)));
+            let mut any = false;
+            for node in asked {
+                ordinary::cut(&mut self.bytes, self.deep, *node);
+                any = true;
+            }
+            if !any {
+                return;
+            }
+            ordinary::ordinary_sums(&mut self.bytes, self.deep);
+        }
+    }
+
+    /// The panel's own bytes, as one lends them.
+    pub fn lent(&self) -> &[u8] {
+        &self.bytes[..self.bytes.len() - ordinary::SPARE]
+    }
+
+    pub fn lent_mut(&mut self) -> &mut [u8] {
+        let end = self.bytes.len() - ordinary::SPARE;
+        &mut self.bytes[..end]
+    }
+
+    pub fn leaves(&self) -> Vec<u32> {
+        let count = ordinary::count(&self.bytes, self.deep);
+        (0..count).map(|i| ordinary::ordinary_leaf(&self.bytes, self.deep, i)).collect()
+    }
+
+    /// Up to `most` leaves that a call answers 0 for, spread over the panel.
+    pub fn some_leaves(&self, most: usize, call: impl Fn(&mut [u8], u32, u32) -> u32) -> Vec<u32> {
+        let leaves = self.leaves();
+        let allowed = |k: &u32| call(self.clone().lent_mut(), self.deep, *k) == 0;
+        let step = leaves.len().div_ceil(4 * most);
+        let allowed: Vec<u32> = leaves.into_iter().step_by(step).filter(allowed).collect();
+        let step = allowed.len().div_ceil(most).max(1);
+        allowed.into_iter().step_by(step).collect()
+    }
+}
+
+pub fn depth(node: u32) -> u32 {
+    31 - node.leading_zeros()
+}
+
+/// Numbers that look random and are the same in every run.
+pub struct Random(pub u64);
+
+impl Random {
+    pub fn below(&mut self, end: usize) -> usize {
+        self.0 = self.0.wrapping_mul(6364136223846793005).wrapping_add(1442695040888963407);
+        ((self.0 >> 33) as usize * end) >> 31
+    }
+
+    /// The same items in another order.
+    pub fn shuffled(&mut self, mut items: Vec<u32>) -> Vec<u32> {
+        for i in (1..items.len()).rev() {
+            items.swap(i, self.below(i + 1));
+        }
+        items
+    }
+}

@@ -1,0 +1,252 @@
+//! What is measured: each row both sides, checked to compute the same, then timed.
+
+use std::time::Duration;
+
+use bench::ordinary::{self, Triangle};
+use bench::ours;
+use bench::panels::{Kind, Panel, Random};
+use bench::timing::{least, Times};
+
+/// A row of the table for one panel: what it is, the ratio to reach, and the times where the panel has such a call.
+pub struct Row {
+    pub what: &'static str,
+    pub target: Option<f64>,
+    pub times: Option<Times>,
+}
+
+/// How many leaves a split or a merge is measured on.
+const LEAVES: usize = 8;
+/// A run makes at least so many of the short calls.
+const CALLS: usize = 512;
+
+/// Leaf numbers or nodes to ask for, often enough.
+fn often(items: Vec<u32>) -> Vec<u32> {
+    let times = CALLS.div_ceil(items.len());
+    items.repeat(times)
+}
+
+/// A call on each number, by both sides.
+fn each(
+    long: Duration,
+    what: &str,
+    asked: &[u32],
+    ours: impl Fn(u32) -> u64,
+    ordinary: impl Fn(u32) -> u64,
+) -> Option<Times> {
+    for k in asked {
+        assert_eq!(ours(*k), ordinary(*k), "{what} of {k}");
+    }
+    let all = |call: &dyn Fn(u32) -> u64| asked.iter().fold(0u64, |sum, k| sum.wrapping_add(call(*k)));
+    assert_eq!(all(&ours), all(&ordinary));
+    let run_ours = |_: &mut ()| {
+        std::hint::black_box(asked.iter().fold(0u64, |sum, k| sum.wrapping_add(ours(*k))));
+    };
+    let run_ordinary = |_: &mut ()| {
+        std::hint::black_box(asked.iter().fold(0u64, |sum, k| sum.wrapping_add(ordinary(*k))));
+    };
+    Some(least(&mut (), asked.len(), long, |_| {}, run_ours, run_ordinary))
+}
+
+fn around(n: [u32; 3]) -> u64 {
+    u64::from(n[0]) + (u64::from(n[1]) << 16) + (u64::from(n[2]) << 32)
+}
+
+fn points(t: Triangle) -> u64 {
+    t.iter().flatten().fold(0, |sum, x| sum * 512 + u64::from(*x))
+}
+
+/// Making, testing and judging, each beside making all sums in the ordinary way.
+fn sums(long: Duration, panel: &Panel) -> Vec<Row> {
+    let deep = panel.deep;
+    let mut one = panel.clone();
+    let leaf_bits = 3 * one.lent().len() / 4;
+    one.bytes[4..leaf_bits].fill(0);
+    let mut other = one.clone();
+    ours::make_sums(one.lent_mut(), deep);
+    ordinary::ordinary_sums(&mut other.bytes, deep);
+    assert!(one.bytes == panel.bytes && other.bytes == panel.bytes, "both make the same sums");
+    ordinary::ordinary_sums_by_row(&mut other.bytes, deep);
+    assert!(other.bytes == panel.bytes, "so does the ordinary version by rows");
+
+    let work = &mut panel.clone();
+    let made = |p: &mut Panel| ordinary::ordinary_sums(&mut p.bytes, deep);
+    let test = |p: &mut Panel| assert!(ours::all_right(p.lent(), deep));
+    let judge = |p: &mut Panel| assert_eq!(ours::judge(p.lent()), 0);
+    let make = |p: &mut Panel| ours::make_sums(p.lent_mut(), deep);
+    let by_row = |p: &mut Panel| ordinary::ordinary_sums_by_row(&mut p.bytes, deep);
+    vec![
+        Row {
+            what: "testing all sums (beside making them)",
+            target: Some(0.15),
+            times: Some(least(work, 1, long, |_| {}, test, made)),
+        },
+        Row {
+            what: "the whole judge (beside making all sums)",
+            target: Some(0.6),
+            times: Some(least(work, 1, long, |_| {}, judge, made)),
+        },
+        Row {
+            what: "making all sums",
+            target: Some(0.6),
+            times: Some(least(work, 1, long, |_| {}, make, made)),
+        },
+        Row {
+            what: "making all sums (ordinary: by rows)",
+            target: None,
+            times: Some(least(work, 1, long, |_| {}, make, by_row)),
+        },
+    ]
+}
+
+/// Leaf by number and number of leaf, in turn and in no order.
+fn leaves(long: Duration, panel: &Panel) -> Vec<Row> {
+    let (deep, lent, bytes) = (panel.deep, panel.lent(), &panel.bytes[..]);
+    let nodes = panel.leaves();
+    let numbers: Vec<u32> = (0..nodes.len() as u32).collect();
+    let mut random = Random(1);
+    let leaf = |what, asked: Vec<u32>| Row {
+        what,
+        target: Some(0.9),
+        times: each(
+            long,
+            what,
+            &often(asked),
+            |i| u64::from(ours::leaf(lent, deep, i)),
+            |i| u64::from(ordinary::ordinary_leaf(bytes, deep, i)),
+        ),
+    };
+    let number = |what, asked: Vec<u32>| Row {
+        what,
+        target: Some(1.0),
+        times: each(
+            long,
+            what,
+            &often(asked),
+            |k| u64::from(ours::leaf_toward(lent, deep, k).1),
+            |k| u64::from(ordinary::ordinary_number(bytes, deep, k)),
+        ),
+    };
+    vec![
+        leaf("leaf by number, in turn", numbers.clone()),
+        leaf("leaf by number, in no order", random.shuffled(numbers)),
+        number("number of leaf, in turn", nodes.clone()),
+        number("number of leaf, in no order", random.shuffled(nodes)),
+    ]
+}
+
+/// Neighbours and corners of the panel's leaves, in turn and in no order.
+fn nodes(long: Duration, panel: &Panel) -> Vec<Row> {
+    let in_turn = often(panel.leaves());
+    let mixed = often(Random(2).shuffled(panel.leaves()));
+    let theirs = |k| {
+        let n = ordinary::ordinary_neighbours(k);
+        around([n.left, n.right, n.edge])
+    };
+    let neighbours = |what, asked: &[u32]| Row {
+        what,
+        target: Some(1.25),
+        times: each(long, what, asked, |k| around(ours::neighbours(k)), theirs),
+    };
+    let corners = |what, asked: &[u32]| Row {
+        what,
+        target: Some(1.25),
+        times: each(
+            long,
+            what,
+            asked,
+            |k| points(ours::corners(k)),
+            |k| points(ordinary::ordinary_corners(k)),
+        ),
+    };
+    let by_matrices = |k| points(ordinary::ordinary_corners_by_matrices(k));
+    let edge = |k| u64::from(ordinary::ordinary_neighbours(k).edge);
+    let what_matrices = "corners, in no order (ordinary: products of matrices)";
+    let what_edge = "edge neighbour alone, in no order";
+    vec![
+        neighbours("neighbours, in turn", &in_turn),
+        neighbours("neighbours, in no order", &mixed),
+        corners("corners, in turn", &in_turn),
+        corners("corners, in no order", &mixed),
+        Row {
+            what: what_matrices,
+            target: None,
+            times: each(long, what_matrices, &mixed, |k| points(ours::corners(k)), by_matrices),
+        },
+        Row {
+            what: what_edge,
+            target: None,
+            times: each(long, what_edge, &mixed, |k| u64::from(ours::edge(k)), edge),
+        },
+    ]
+}
+
+type Ours = fn(&mut [u8], u32, u32) -> u32;
+type Ordinary = fn(&mut [u8], u32, u32);
+
+/// A split or a merge of several leaves, each from the same panel.
+fn change(
+    long: Duration,
+    what: &'static str,
+    start: &Panel,
+    asked: &[u32],
+    ours: Ours,
+    ordinary: Ordinary,
+) -> Row {
+    let deep = start.deep;
+    let one_leaf = |k: &u32| {
+        let (mut one, mut other) = (start.clone(), start.clone());
+        assert_eq!(ours(one.lent_mut(), deep, *k), 0);
+        ordinary(&mut other.bytes, deep, *k);
+        assert!(one.bytes == other.bytes && one.bytes != start.bytes, "{what} of {k}: the same bytes");
+        let back = |p: &mut Panel| p.bytes.copy_from_slice(&start.bytes);
+        let do_ours = |p: &mut Panel| {
+            ours(p.lent_mut(), deep, *k);
+        };
+        let do_ordinary = |p: &mut Panel| ordinary(&mut p.bytes, deep, *k);
+        least(&mut one, 1, long / LEAVES as u32, back, do_ours, do_ordinary)
+    };
+    let times: Vec<Times> = asked.iter().map(one_leaf).collect();
+    Row { what, target: Some(1.0), times: (!times.is_empty()).then(|| Times::mean(&times)) }
+}
+
+/// The panel that splits are measured on: the same, or, where no leaf of it can be split, after one merge in its middle.
+pub fn to_split(panel: &Panel) -> Panel {
+    let mut start = panel.clone();
+    if start.leaves().iter().all(|k| bench::panels::depth(*k) == start.deep) {
+        let middle = start.leaves()[start.leaves().len() / 3];
+        assert_eq!(ours::merge(start.lent_mut(), panel.deep, middle), 0);
+    }
+    start
+}
+
+fn changes(long: Duration, panel: &Panel) -> Vec<Row> {
+    let cuttable = to_split(panel);
+    let asked = cuttable.some_leaves(LEAVES, ours::split);
+    let asked = if asked.is_empty() { all_that(&cuttable, ours::split) } else { asked };
+    vec![
+        change(long, "a judged split", &cuttable, &asked, ours::split, ordinary::ordinary_split),
+        change(
+            long,
+            "a judged merge",
+            panel,
+            &panel.some_leaves(LEAVES, ours::merge),
+            ours::merge,
+            ordinary::ordinary_merge,
+        ),
+    ]
+}
+
+/// Every leaf that a call answers 0 for.
+pub fn all_that(panel: &Panel, call: Ours) -> Vec<u32> {
+    panel.leaves().into_iter().filter(|k| call(panel.clone().lent_mut(), panel.deep, *k) == 0).collect()
+}
+
+/// All rows of a panel.
+pub fn all(long: Duration, deep: u32, kind: Kind) -> Vec<Row> {
+    let panel = Panel::new(deep, kind);
+    let mut rows = sums(long, &panel);
+    rows.extend(leaves(long, &panel));
+    rows.extend(nodes(long, &panel));
+    rows.extend(changes(long, &panel));
+    rows
+}
