@@ -6,27 +6,18 @@ use native.Mathlib.Decide.{ℕ-discrete}
 use native.Mathlib.Omega.{arith}
 use lib.Pow.{pow-pos}
 use Rattle.nodes.proofs.Depths.{At}
+use Rattle.sums.proofs.Ranks.{Bits}
+use Rattle.sums.proofs.Counts.{sum}
 use Rattle.cuts.specs.Cuts.{Leaf}
 use Rattle.cuts.proofs.CutBits.{first, CutBit, first-left, cut-in, cut-out, dec-cut-bit, first-set, leaf-set}
 
--- how many leaf bits are set below n, which stands j levels above depth D
-unfoldable pub sum : (ℕ → ℕ) → ℕ → ℕ → ℕ
-sum g zero n = g n
-sum g (suc j) n = sum g j (2 * n) + sum g j (2 * n + 1)
-
--- a sum counts at most all bits below its node ..
-pub sum-le : (g : ℕ → ℕ) → ((N : ℕ) → g N ≤ 1) → (j n : ℕ) → sum g j n ≤ 2 ^ j
-unfolding sum
-sum-le g s zero n = s n
-sum-le g s (suc j) n = omega (arith, sum-le g s j (2 * n), sum-le g s j (2 * n + 1))
-
--- .. and at least the first
+-- a sum counts at least the first bit below its node
 pub first-sum : (g : ℕ → ℕ) (j n : ℕ) → g (first j n) ≤ sum g j n
 unfolding sum
 first-sum g zero n = omega (arith, ap g (let e : first 0 n ≡ n = omega arith in e))
 first-sum g (suc j) n = omega (arith, ap g (first-left j n), first-sum g j (2 * n))
 
-module _ (D : ℕ) (g : ℕ → ℕ) (small : (N : ℕ) → g N ≤ 1) (up : (n : ℕ) → 2 ≤ n → CutBit D g n → CutBit D g (n / 2)) where
+module _ (D : ℕ) (g : ℕ → ℕ) (small : Bits g) (up : (n : ℕ) → 2 ≤ n → CutBit D g n → CutBit D g (n / 2)) where
   -- below a node that is not cut only the first bit can be set
   pub uncut-sum : (d j n : ℕ) → At d n → d + j ≡ D → (CutBit D g n → ⊥) → sum g j n ≡ g (first j n)
   unfolding sum
