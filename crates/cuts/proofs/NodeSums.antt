@@ -1,5 +1,5 @@
 -- A node's sum counts the leaf bits set below it: at least 2 where the node is cut, 1 where it is a leaf.
-use mathlib.Core.Path.{_≡_, ap, _∙_, subst}
+use mathlib.Core.Path.{_≡_, ap, subst}
 use mathlib.Core.Logic.{_↔_}
 use Prim.Native.Nat.{ℕ, zero, suc, _+_, _-_, _*_, _/_, _^_, _≤_}
 use native.Mathlib.Decide.{ℕ-discrete}
@@ -7,9 +7,8 @@ use native.Mathlib.Omega.{arith}
 use lib.Pow.{pow-pos}
 use Rattle.nodes.proofs.Depths.{At}
 use Rattle.sums.proofs.Ranks.{Bits}
-use Rattle.sums.proofs.Counts.{sum}
-use Rattle.cuts.specs.Cuts.{Leaf}
-use Rattle.cuts.proofs.CutBits.{first, CutBit, first-left, cut-in, cut-out, dec-cut-bit, first-set, leaf-set}
+use Rattle.sums.proofs.Counts.{sum, first-left}
+use Rattle.cuts.proofs.CutBits.{first, CutBit, cut-in, cut-out, dec-cut-bit, first-set}
 
 -- a sum counts at least the first bit below its node
 pub first-sum : (g : ℕ → ℕ) (j n : ℕ) → g (first j n) ≤ sum g j n
@@ -36,10 +35,6 @@ module _ (D : ℕ) (g : ℕ → ℕ) (small : Bits g) (up : (n : ℕ) → 2 ≤ 
       odd (no c) = omega (arith, small (first j (2 * n + 1)))
 
   module _ (start : g (2 ^ D) ≡ 1) (root : CutBit D g 1) where
-    -- a leaf's sum is 1
-    pub leaf-sum : (d j n : ℕ) → At d n → d + j ≡ D → Leaf (CutBit D g) n → sum g j n ≡ 1
-    leaf-sum d j n a e l = uncut-sum d j n a e (l .uncut) ∙ leaf-set D g start root up d j n a e l
-
     -- below a node whose parent is cut some bit is set
     pub pos-sum : (d j n : ℕ) → At d n → d + j ≡ D → (2 ≤ n → CutBit D g (n / 2)) → 1 ≤ sum g j n
     pos-sum d j n a e c = omega (arith, first-sum g j n, first-set D g start root up d j n a e c)
@@ -65,7 +60,3 @@ module _ (D : ℕ) (g : ℕ → ℕ) (small : Bits g) (up : (n : ℕ) → 2 ≤ 
         from : 2 ≤ sum g j n → Dec (CutBit D g n) → CutBit D g n
         from h (yes c) = c
         from h (no c) = absurd (omega (arith, uncut-sum d j n a e c, small (first j n)))
-
-    -- of the nodes whose parent is cut, the leaves are those whose sum is 1
-    pub leaf-iff : (d j n : ℕ) → At d n → d + j ≡ D → 2 ≤ n → CutBit D g (n / 2) → (Leaf (CutBit D g) n ↔ (sum g j n ≡ 1))
-    leaf-iff d j n a e h c = (leaf-sum d j n a e, λ s. record { low = h; uncut = λ q. omega (arith, cut-iff d j n a e .0 q); parent = c })

@@ -1,5 +1,5 @@
 -- The trailing zeros of a place are the levels from depth D up to the node whose first bit it is; but for place 0 that node is a right child.
-use mathlib.Core.Path.{_≡_, sym, ap, ap₂, _∙_, subst}
+use mathlib.Core.Path.{_≡_, sym, ap, ap₂, _∙_}
 use mathlib.Core.Logic.{_↔_}
 use Prim.Native.Nat.{ℕ, zero, suc, _+_, _-_, _*_, _/_, _%_, _^_, _≤_, _<_}
 use native.Mathlib.Nat.{mul-div-left, add-mul}
@@ -9,10 +9,10 @@ use lib.Pow.{pow-pos, pow-mono, pow-add}
 use lib.Count.{trailingZeros, under}
 use Rattle.nodes.specs.Depth.{depthOf}
 use Rattle.nodes.proofs.Depths.{At, at-left, at-right, at-depth, depth-is}
-use Rattle.sums.proofs.Counts.{byNode}
+use Rattle.sums.proofs.Counts.{byNode, at-first}
 use Rattle.cuts.specs.Cuts.{named, Cut}
 use Rattle.cuts.specs.Steps.{CutPlace}
-use Rattle.cuts.proofs.CutBits.{first, CutBit, first-suc, first-right, at-first, bit-names, dec-cut-bit, cut-in, cut-out, cut-bit-depth}
+use Rattle.cuts.proofs.CutBits.{first, CutBit, first-suc, bit-names, dec-cut-bit, cut-in, cut-out, cut-bit-depth}
 
 -- ---- the node that a place names
 
@@ -80,14 +80,11 @@ cutPlace D j n = (2 * n + 1) * 2 ^ j - 2 ^ D
 
 pub cut-place : (D d j n : ℕ) → D ≤ 32 → At d n → d + suc j ≡ D → CutPlace D n (cutPlace D j n)
 cut-place D d j n l a e =
-    let b : At D (first j (2 * n + 1)) = below (2 * n + 1) (at-right a) in record {
-      low = omega (arith, below (2 * n) (at-left a), first-right j n, pow-pos j);
+    let b : At D (first j (2 * n + 1)) = at-first D (suc d) j (2 * n + 1) (at-right a) (omega arith) in record {
+      low = omega (arith, at-first D (suc d) j (2 * n) (at-left a) (omega arith), pow-pos j);
       high = omega (arith, b);
       names = names-named D (cutPlace D j n) j n l (record { depth = d; levels = e; at = a; place = omega (arith, b) });
     }
-  where
-    below : (m : ℕ) → At (suc d) m → At D (first j m)
-    below m c = subst (λ x. At x (first j m)) (let r : suc d + j ≡ D = omega arith in r) (at-first j (suc d) m c)
 
 -- ---- cuts
 

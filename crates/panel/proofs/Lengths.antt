@@ -1,13 +1,13 @@
 -- A right length is a power of two within the limits, its depth is that power's, and it has room for the words.
-use mathlib.Core.Path.{_≡_, refl, sym, ap, _∙_, subst}
+use mathlib.Core.Path.{_≡_, sym, ap, _∙_, subst}
 use mathlib.Core.List.{List}
-use Prim.Native.Nat.{ℕ, zero, suc, _+_, _-_, _*_, _^_, _≤_, _<_}
+use Prim.Native.Nat.{ℕ, zero, suc, _+_, _-_, _*_, _^_, _≤_}
 use native.Mathlib.Omega.{arith}
 use lib.ListN.{length}
 use lib.Pow.{pow-add, pow-mono, pow-pos}
 use Rattle.nodes.specs.Depth.{depthOf}
 use Rattle.nodes.specs.Limits.{leastDepth, greatestDepth}
-use Rattle.nodes.proofs.Depths.{pow-next, at-depth, at-from, depth-is, depth-le, below-depth}
+use Rattle.nodes.proofs.Depths.{pow-next, at-depth, at-from, depth-is, depth-le}
 use Rattle.sums.specs.Words.{Room}
 use Rattle.panel.specs.Panels.{Fits, deepOf, RightLength}
 

@@ -7,16 +7,12 @@ use native.Mathlib.Omega.{arith}
 use lib.ListN.{length, take, drop}
 use lib.Seq.{getD-take}
 use Rattle.bits.specs.Bits.{digit, bit}
-use Rattle.bits.proofs.Laws.{Bytes, bit-lt, length-putBit, bytes-put, bit-put-same, bit-put-other}
+use Rattle.bits.proofs.Laws.{length-putBit, bit-put-same, bit-put-other}
 use Rattle.bits.proofs.Windows.{bit-drop}
 use Rattle.nodes.proofs.Depths.{pow-next}
 use Rattle.sums.specs.Words.{word, leafBit, putLeafBit, Room}
 use Rattle.sums.proofs.Slots.{apart, from-leaf, word-same}
 use Rattle.sums.proofs.Rooms.{bounds, whole-bytes}
-
-pub leaf-lt : (D : ℕ) (bs : List ℕ) (p : ℕ) → leafBit D bs p < 2
-unfolding leafBit
-leaf-lt D bs p = bit-lt bs (3 * 2 ^ D + p)
 
 module _ (D : ℕ) (bs : List ℕ) (p v : ℕ) where
   pub length-put-leaf : length (putLeafBit D bs p v) ≡ length bs
@@ -24,10 +20,6 @@ module _ (D : ℕ) (bs : List ℕ) (p v : ℕ) where
   length-put-leaf = length-putBit bs (3 * 2 ^ D + p) v
 
   module _ (hv : v < 2) where
-    pub bytes-put-leaf : Bytes bs → Bytes (putLeafBit D bs p v)
-    unfolding putLeafBit
-    bytes-put-leaf h = bytes-put bs (3 * 2 ^ D + p) v hv h
-
     pub leaf-put-same : Room D bs → p < 2 ^ D → leafBit D (putLeafBit D bs p v) p ≡ v
     unfolding leafBit putLeafBit
     leaf-put-same r h = bit-put-same bs (3 * 2 ^ D + p) v (omega (arith, bounds r)) hv

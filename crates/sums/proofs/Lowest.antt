@@ -6,7 +6,7 @@ use Prim.Native.Nat.{ℕ, _+_, _-_, _*_, _/_, _%_, _^_, _≤_, _<_}
 use native.Mathlib.Omega.{arith}
 use lib.ListN.{length}
 use Rattle.bits.specs.Bits.{bit, field, putField}
-use Rattle.bits.proofs.Laws.{field-lt, le-or-lt, bit-out, length-putField, field-put-same, field-put-other}
+use Rattle.bits.proofs.Laws.{le-or-lt, bit-out, length-putField, field-put-same, field-put-other}
 use Rattle.nodes.proofs.Depths.{pow-next}
 use Rattle.sums.specs.Rows.{SumsBetween, Made, PairSums, Seven, Sevens}
 use Rattle.sums.proofs.Slots.{from, row-from, from-leaf}

@@ -3,13 +3,13 @@ use mathlib.Core.Path.{_≡_, sym, ap, ap₂, _∙_, subst}
 use mathlib.Core.Logic.{_⊎_, inl, inr, ⊎-elim}
 use mathlib.Core.List.{List}
 use Prim.Native.Nat.{ℕ, zero, suc, _+_, _-_, _*_, _^_, _≤_, _<_}
-use native.Mathlib.Nat.{add-mul, mul-add, mul-comm, one-mul, mul-one, mul-zero, zero-mul, zero-lt-suc, le-trans, le-refl}
+use native.Mathlib.Nat.{add-mul, mul-add, one-mul, mul-one, mul-zero, zero-mul, zero-lt-suc, le-trans, le-refl}
 use native.Mathlib.Decide.{le-ind}
 use native.Mathlib.Numerals.{add-one}
 use native.Mathlib.Omega.{arith}
 use lib.ListN.{length}
 use lib.Pow.{pow-pos}
-use Rattle.bits.proofs.Laws.{Bytes, ext-bits, run-inj, bit-lt, le-or-lt, order, run-ext, Out, bit-out, bytes-putField, field-put-same, field-put-other, field-lt, length-putField}
+use Rattle.bits.proofs.Laws.{Bytes, ext-bits, run-inj, bit-lt, le-or-lt, order, run-ext, Out, bit-out, field-put-same, field-put-other, field-lt, length-putField}
 use Rattle.bits.proofs.Windows.{field-one}
 use Rattle.bits.specs.Bits.{bit, field}
 use Rattle.nodes.specs.Depth.{depthOf}
@@ -97,10 +97,6 @@ word-lt D bs k = field-lt bs (from D k) (wide D k)
 pub length-putWord : (D : ℕ) (bs : List ℕ) (k v : ℕ) → length (putWord D bs k v) ≡ length bs
 unfolding putWord
 length-putWord D bs k v = length-putField bs (from D k) (wide D k) v
-
-pub bytes-putWord : (D : ℕ) (bs : List ℕ) (k v : ℕ) → Bytes bs → Bytes (putWord D bs k v)
-unfolding putWord
-bytes-putWord D bs k v h = bytes-putField bs (from D k) (wide D k) v h
 
 -- a write to a word leaves every bit outside it
 pub bit-put-word : (D : ℕ) (bs : List ℕ) (k v p : ℕ) → Out (from D k) (wide D k) p → bit (putWord D bs k v) p ≡ bit bs p

@@ -13,12 +13,6 @@ use Rattle.sums.specs.Words.{word, leafBit}
 use Rattle.sums.specs.Sums.{SumsRight, Right, Summed}
 use Rattle.sums.proofs.Slots.{packed, from-one, word-same, words-ext, leaf-word}
 
--- whether sums are right depends on the words alone
-pub sums-words : (D : ℕ) (xs ys : List ℕ) → ((k : ℕ) → 1 ≤ k → k < 2 ^ (D + 1) → word D ys k ≡ word D xs k) → SumsRight D xs → SumsRight D ys
-sums-words D xs ys w s k l h =
-    w k l (omega (arith, pow-next D)) ∙ s k l h
-    ∙ sym (ap₂ (λ (x y : ℕ). x + y) (w (2 * k) (omega arith) (omega (arith, pow-next D))) (w (2 * k + 1) (omega arith) (omega (arith, pow-next D))))
-
 -- right sums over the same leaf bits are the same
 module _ (D : ℕ) (xs ys : List ℕ) (a : SumsRight D xs) (b : SumsRight D ys) (leaf : (p : ℕ) → p < 2 ^ D → leafBit D xs p ≡ leafBit D ys p) where
   same-in : (n k : ℕ) → 1 ≤ k → 2 ^ (D + 1) ≤ k + n → k < 2 ^ (D + 1) → word D xs k ≡ word D ys k

@@ -1,6 +1,5 @@
 -- To store a byte is to put the field of its eight bits.
 use mathlib.Core.Path.{_∙_}
-use native.Mathlib.Omega.{arith}
 use borrow.Author.Needs.{needs}
 use Rattle.bits.proofs.Windows.{set-byte}
 use Rattle.bits.proofs.put_byte.Statement.{statement}

@@ -1,13 +1,11 @@
 -- The tests are the parts of `Good`, one by one, at the depth that the length gives.
 use mathlib.Core.Path.{_≡_, sym, _∙_, subst}
-use mathlib.Core.List.{List}
-use Prim.Native.Nat.{ℕ}
 use lib.Pow.{pow-pos}
 use borrow.Author.Needs.{needs}
 use Rattle.sums.specs.Sums.{Right}
 use Rattle.sums.specs.Words.{leafBit, Room}
 use Rattle.cuts.specs.Cuts.{Cut, GoodCuts}
-use Rattle.panel.specs.Panels.{deepOf, RightLength, Good}
+use Rattle.panel.specs.Panels.{deepOf, RightLength}
 use Rattle.panel.proofs.Lengths.{fits-room}
 use Rattle.panel.proofs.Rows.{wrong-length, not-good, is-good}
 use Rattle.panel.proofs.judging.judge.Statement.{statement}

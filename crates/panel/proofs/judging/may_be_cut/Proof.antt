@@ -1,11 +1,8 @@
 -- Node 1 asks nothing; of any other the parent's bit and the edge neighbour's say it.
-use mathlib.Core.Path.{_≡_, sym, ap, _∙_, subst}
-use Prim.Native.Nat.{_+_, _≤_, _<_, _^_}
+use mathlib.Core.Path.{sym, ap, _∙_, subst}
 use native.Mathlib.Omega.{arith}
-use lib.Pow.{pow-mono}
 use borrow.Author.Needs.{needs}
 use Rattle.nodes.specs.Depth.{depthOf}
-use Rattle.nodes.specs.Neighbours.{edge}
 use Rattle.nodes.specs.Table.{Says}
 use Rattle.nodes.proofs.Depths.{below-depth, depth-half}
 use Rattle.nodes.proofs.Edges.{edge-depth}

@@ -1,5 +1,5 @@
 -- The shifts lose nothing, and the node is the one that 01 names.
-use mathlib.Core.Path.{_≡_, ap₂, _∙_}
+use mathlib.Core.Path.{ap₂}
 use Prim.Native.Nat.{ℕ, _+_, _/_, _^_}
 use native.Mathlib.Omega.{arith}
 use lib.Pow.{pow-mono}

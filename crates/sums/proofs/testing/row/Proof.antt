@@ -1,6 +1,6 @@
 -- Each turn compares one word more with the sum of its children's words, where the running places say.
 use mathlib.Core.Path.{_≡_, sym, ap, ap₂, _∙_, subst⁻¹}
-use Prim.Native.Nat.{ℕ, _+_, _-_, _*_, _%_, _^_, _<_}
+use Prim.Native.Nat.{ℕ, _+_, _-_, _*_, _%_, _^_}
 use native.Mathlib.Omega.{arith}
 use Rattle.bits.proofs.Laws.{one-shl}
 use Rattle.nodes.proofs.Depths.{pow-next}
