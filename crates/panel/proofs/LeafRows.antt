@@ -48,4 +48,5 @@ good-past {s} rows a = row-past rows (omega arith) (row-past (unless 2 (Good s) 
 pub leaf-past : {s : List ℕ} {k : ℕ} (rows : List Row) → Answers (leafRows s k ++ rows) 0 → Good s × LeafOf s k × Answers rows 0
 leaf-past {s} {k} rows a =
     let (g, b) = good-past (unless 3 (InRange s k) ∷ unless 4 (LeafOf s k) ∷ rows) a in
-    (g, row-past rows (omega arith) (row-past (unless 4 (LeafOf s k) ∷ rows) (omega arith) b .1))
+    let (l, c) = row-past rows (omega arith) (row-past (unless 4 (LeafOf s k) ∷ rows) (omega arith) b .1) in
+    (g, l, c)
