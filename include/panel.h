@@ -1,11 +1,11 @@
-/* The panel scanner's calls for C. README.md says what each does, and which are in the archive by now.
+/* The panel scanner's calls for C. README.md says what each does.
  *
  * Each call returns the answer's number: PANEL_DONE, or why it is refused. Beside a refusal every number that
  * a call writes through a pointer is 0, and all bytes of the panel are as before.
  *
- * A panel is lent as a pointer and its length in bytes. Pointers are not null, also where the length is 0, and
+ * A panel is lent as a pointer and its length in bytes, `len`. Pointers are not null, also where the length is 0, and
  * no two arguments of one call point to the same place. A call keeps no pointer and writes nothing outside
- * the `length` bytes and the numbers it is asked for.
+ * the `len` bytes and the numbers it is asked for.
  */
 #ifndef PANEL_H
 #define PANEL_H
@@ -42,30 +42,30 @@ uint32_t node_corners(uint32_t node, uint32_t *ax, uint32_t *ay, uint32_t *bx, u
 /* ---- calls that read a panel */
 
 /* Whether the panel is good. Answers 0, 1, 2. */
-uint32_t panel_judge(const uint8_t *panel, size_t length);
+uint32_t panel_judge(const uint8_t *panel, size_t len);
 
 /* The number of leaves. Answers 0, 1, 2. */
-uint32_t panel_count(const uint8_t *panel, size_t length, uint32_t *count);
+uint32_t panel_count(const uint8_t *panel, size_t len, uint32_t *count);
 
 /* The node of a leaf number, from 0 up, from left to right. Answers 0, 1, 2, 8. */
-uint32_t panel_leaf(const uint8_t *panel, size_t length, uint32_t number, uint32_t *node);
+uint32_t panel_leaf(const uint8_t *panel, size_t len, uint32_t number, uint32_t *node);
 
 /* The leaf number of a node. Answers 0, 1, 2, 3, 4. */
-uint32_t panel_number(const uint8_t *panel, size_t length, uint32_t node, uint32_t *number);
+uint32_t panel_number(const uint8_t *panel, size_t len, uint32_t node, uint32_t *number);
 
-/* Which bytes of the panel hold the leaf bits: the first, and how many. Answers 0, 1, 2. */
-uint32_t panel_leaf_bits(const uint8_t *panel, size_t length, size_t *first, size_t *bytes);
+/* Which bytes of the panel the leaf bits fill: the place of the first, and how many. Answers 0, 1, 2. */
+uint32_t panel_leaf_bits(const uint8_t *panel, size_t len, size_t *start, size_t *length);
 
 /* ---- calls that change a panel */
 
 /* Writes every byte: the fresh panel of this depth, with the leaves 2 and 3. Answers 0, 1. */
-uint32_t panel_open(uint8_t *panel, size_t length, uint32_t depth);
+uint32_t panel_open(uint8_t *panel, size_t len, uint32_t depth);
 
 /* Cuts a leaf, and what must be cut with it so that the panel stays good. Answers 0, 1, 2, 3, 4, 5. */
-uint32_t panel_split(uint8_t *panel, size_t length, uint32_t node);
+uint32_t panel_split(uint8_t *panel, size_t len, uint32_t node);
 
 /* Takes back the cut that made a leaf, and the one across the long side. Answers 0, 1, 2, 3, 4, 6, 7. */
-uint32_t panel_merge(uint8_t *panel, size_t length, uint32_t node);
+uint32_t panel_merge(uint8_t *panel, size_t len, uint32_t node);
 
 #ifdef __cplusplus
 }

@@ -1,4 +1,4 @@
-//! Holds every exported call against the second program, case by case, and stops at the first difference.
+//! Holds every exported call and the scanner program against the second program, case by case, and stops at the first difference.
 //!
 //!     compare [--seed NUMBER] [--cases NUMBER]
 //!
@@ -22,6 +22,8 @@ mod frame;
 mod nodes;
 #[cfg(feature = "reads")]
 mod runs;
+#[cfg(feature = "scanner")]
+mod scanner;
 #[cfg(feature = "reads")]
 mod subject;
 
@@ -52,6 +54,9 @@ pub const CALLS: &[(&str, &[u32])] = &[
     ("panel_split", &[0, 1, 2, 3, 4, 5]),
     #[cfg(feature = "changes")]
     ("panel_merge", &[0, 1, 2, 3, 4, 6, 7]),
+    // a run's panel is always good, and no request takes a leaf number
+    #[cfg(feature = "scanner")]
+    ("scanner", &[0, 1, 3, 4, 5, 6, 7, 9]),
 ];
 
 /// The seed, and how many random cases of each kind.
@@ -61,7 +66,7 @@ struct Arguments {
 }
 
 fn arguments() -> Option<Arguments> {
-    let mut found = Arguments { seed: 1, cases: 200 };
+    let mut found = Arguments { seed: 1, cases: 400 };
     let mut words = std::env::args().skip(1);
     while let Some(word) = words.next() {
         match word.as_str() {
@@ -82,6 +87,8 @@ fn compare(tally: &mut Tally, random: &mut Random, cases: usize) -> Compared {
         runs::all(tally, random, cases)?;
         damage::all(tally, random, cases)?;
     }
+    #[cfg(feature = "scanner")]
+    scanner::all(tally, random, cases)?;
     Ok(())
 }
 
@@ -90,7 +97,7 @@ fn main() -> ExitCode {
         eprintln!("compare [--seed NUMBER] [--cases NUMBER]");
         return ExitCode::from(2);
     };
-    println!("exports against second, seed {seed}, {cases} cases of each kind");
+    println!("exports and scanner against second, seed {seed}, {cases} cases of each kind");
     let mut tally = Tally::default();
     if let Err(Difference(what)) = compare(&mut tally, &mut Random(seed), cases) {
         println!("compare: {what}");

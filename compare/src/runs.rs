@@ -22,7 +22,7 @@ fn all_cut(depth: u32) -> Panel {
 }
 
 /// A node to change: mostly a leaf, often one of the deepest, at times one beside a leaf or any number.
-fn node(panel: &Panel, random: &mut Random) -> u32 {
+pub fn node(panel: &Panel, random: &mut Random) -> u32 {
     let leaf = random.pick(panel.leaves());
     let other = random.pick(panel.leaves());
     match random.below(16) {

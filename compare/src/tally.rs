@@ -42,8 +42,13 @@ impl Tally {
                 line(second).trim_end_matches(" with ()")
             )));
         }
-        *self.answers.entry((call, second.0)).or_default() += 1;
+        self.count(call, second.0);
         Ok(())
+    }
+
+    /// Counts a case in which both gave this answer.
+    pub fn count(&mut self, call: &'static str, answer: u32) {
+        *self.answers.entry((call, answer)).or_default() += 1;
     }
 
     /// Counts a panel of a right length, with its leaves if it is good, or one of another length.

@@ -1,1 +1,2 @@
 pub mod SixNumbers
+pub mod LeafParts

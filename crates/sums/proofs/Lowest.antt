@@ -9,7 +9,7 @@ use Rattle.bits.specs.Bits.{bit, field, putField}
 use Rattle.bits.proofs.Laws.{le-or-lt, bit-out, length-putField, field-put-same, field-put-other}
 use Rattle.nodes.proofs.Depths.{pow-next}
 use Rattle.sums.specs.Rows.{SumsBetween, Made, PairSums, Seven, Sevens}
-use Rattle.sums.proofs.Slots.{from, row-from, from-leaf}
+use Rattle.sums.proofs.Slots.{from, from-leaf}
 use Rattle.sums.proofs.Rows.{from-row}
 use Rattle.sums.proofs.Pairs.{pairs-sums, sums-pairs, pairs-one}
 
@@ -58,16 +58,16 @@ module _ (D e : ℕ) (h : e + 3 ≡ D) where
     k = m + j
 
     top : field bs (from D k) 4 ≡ field bs (6 * m + 4 * j) 4
-    top = ap (λ (s : ℕ). field bs s 4) (omega (arith, from-row D e 4 (omega arith) (omega arith) j k (omega arith) (omega arith)))
+    top = ap (λ (s : ℕ). field bs s 4) (omega (arith, p1, from-row D e 4 (omega arith) (omega arith) j k (omega arith) (omega arith)))
 
     middle : field bs (from D (2 * k)) 6 ≡ field bs (10 * m + 6 * j) 6
-    middle = ap (λ (s : ℕ). field bs s 6) (omega (arith, p1, from-row D (e + 1) 3 (omega arith) (omega arith) (2 * j) (2 * k) (omega (arith, p1)) (omega (arith, p1))))
+    middle = ap (λ (s : ℕ). field bs s 6) (omega (arith, p1, p2, from-row D (e + 1) 3 (omega arith) (omega arith) (2 * j) (2 * k) (omega (arith, p1)) (omega (arith, p1))))
 
     bottom : field bs (from D (2 * (2 * k))) 8 ≡ field bs (8 * (2 * m + j)) 8
-    bottom = ap (λ (s : ℕ). field bs s 8) (omega (arith, p2, from-row D (e + 1 + 1) 2 (omega arith) (omega arith) (4 * j) (2 * (2 * k)) (omega (arith, p2)) (omega (arith, p2))))
+    bottom = ap (λ (s : ℕ). field bs s 8) (omega (arith, p2, p3, from-row D (e + 1 + 1) 2 (omega arith) (omega arith) (4 * j) (2 * (2 * k)) (omega (arith, p2)) (omega (arith, p2))))
 
     leaves : field bs (from D (2 * (2 * (2 * k)))) 8 ≡ field bs (8 * (3 * m + j)) 8
-    leaves = ap (λ (s : ℕ). field bs s 8) (omega (arith, p3, from-row D (e + 1 + 1 + 1) 1 (omega arith) (omega arith) (8 * j) (2 * (2 * (2 * k))) (omega (arith, p3)) (omega (arith, p3))))
+    leaves = ap (λ (s : ℕ). field bs s 8) (omega (arith, p3, pow-next (e + 1 + 1 + 1), from-row D (e + 1 + 1 + 1) 1 (omega arith) (omega arith) (8 * j) (2 * (2 * (2 * k))) (omega (arith, p3)) (omega (arith, p3))))
 
     -- the seven are sums of words
     seven-sums : SevenAt m bs j → SumsBetween D bs k (k + 1) × SumsBetween D bs (2 * k) (2 * k + 2) × SumsBetween D bs (2 * (2 * k)) (2 * (2 * k) + 4)
@@ -160,6 +160,6 @@ module _ {m i n : ℕ} {xs ys : List ℕ} (room : 4 * m ≤ length ys) (hi : i <
 pub low-all : (D e : ℕ) → e + 3 ≡ D → {i : ℕ} {xs ys : List ℕ} → 2 ^ e ≤ i → LowMade (2 ^ e) i xs ys → Made D (2 ^ e) (2 ^ D) xs ys
 low-all D e h {i} {xs} {ys} l s = record {
   long = s .long;
-  same = λ p o. s .same p (⊎-elim (λ x. inl (omega (arith, row-from D e 4 (omega arith)))) (λ x. inr (omega (arith, from-leaf D, pow-deep D e h))) o);
+  same = λ p o. s .same p (⊎-elim (λ x. inl (omega (arith, from-row D e 4 (omega arith) (omega arith) 0 (2 ^ e) (omega arith) (omega arith), pow-next e))) (λ x. inr (omega (arith, from-leaf D, pow-deep D e h))) o);
   sums = sevens-sums D e h ys (λ j x. s .sums j (omega arith));
 }

@@ -60,6 +60,10 @@ placed {D} {k} {d} {bs} r hk e =
       bytes = room-bytes r;
     }
 
+-- the number of leaf bytes, as the code computes it
+abbrev pub quarterOf : ℕ → ℕ
+quarterOf D = 1 * 2 ^ (D - 3) % 2 ^ 64
+
 -- the leaf bits are m bytes, the last quarter of those that the words fill
 pub record Quarter (D len m : ℕ) : Type 0 where
   pub is : m ≡ 2 ^ (D - 3)
@@ -67,7 +71,7 @@ pub record Quarter (D len m : ℕ) : Type 0 where
   pub small : m ≤ 16384
   pub inside : 4 * m ≤ len
 
-pub quarter : {D : ℕ} {bs : List ℕ} → Room D bs → Quarter D (length bs) (1 * 2 ^ (D - 3) % 2 ^ 64)
+pub quarter : {D : ℕ} {bs : List ℕ} → Room D bs → Quarter D (length bs) (quarterOf D)
 quarter {D} r =
     let e = one-shl (D - 3) 64 (omega arith) in
     record {

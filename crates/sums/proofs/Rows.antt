@@ -3,14 +3,14 @@ use mathlib.Core.Path.{_≡_, sym, ap, ap₂, _∙_, subst}
 use mathlib.Core.Logic.{⊎-elim}
 use mathlib.Core.List.{List}
 use Prim.Native.Nat.{ℕ, zero, suc, _+_, _-_, _*_, _^_, _≤_, _<_}
-use native.Mathlib.Nat.{add-zero, suc-mul, zero-mul, mul-assoc, le-refl}
+use native.Mathlib.Nat.{add-zero, suc-mul, zero-mul, le-refl}
 use native.Mathlib.Omega.{arith}
 use lib.ListN.{length}
-use lib.Pow.{pow-mono, pow-pos}
+use lib.Pow.{pow-mono}
 use Rattle.bits.specs.Bits.{field, putField}
 use Rattle.bits.proofs.Laws.{field-lt, le-or-lt}
 use Rattle.nodes.proofs.Depths.{pow-next, at-from, depth-is}
-use Rattle.sums.specs.Words.{word, putWord, Room}
+use Rattle.sums.specs.Words.{start, word, putWord, Room}
 use Rattle.sums.specs.Rows.{SumAt, SumsBetween}
 use Rattle.sums.proofs.Slots.{from, wide, row-from, packed, from-mono, from-top}
 use Rattle.sums.proofs.Rooms.{bounds, room-bytes}
@@ -36,14 +36,12 @@ module _ (D d w : ℕ) (h : d + w ≡ D + 1) (hd : d ≤ D) where
       ∙ omega (arith, suc-mul i w)
 
   -- word j of the row, from its first on
-  pub from-row : (j k : ℕ) → k ≡ 2 ^ d + j → j ≤ 2 ^ d → from D k ≡ 2 ^ d * (w + 2) + j * w
+  pub from-row : (j k : ℕ) → k ≡ 2 ^ d + j → j ≤ 2 ^ d → from D k ≡ 2 ^ (d + 1) + 2 ^ d * w + j * w
   from-row j k e l =
-      ap (from D) e ∙ from-at (2 ^ d) j (le-refl (2 ^ d)) (omega (arith, pow-next d)) ∙ omega (arith, row-from D d w h)
+      ap (from D) e ∙ from-at (2 ^ d) j (le-refl (2 ^ d)) (omega (arith, pow-next d))
+      ∙ omega (arith, row-from D d, ap (λ (x : ℕ). 2 ^ d * x) {x = D + 1 - d} {y = w} (omega arith))
 
 -- ---- stretches
-
-pub sums-none : (D : ℕ) (bs : List ℕ) (m : ℕ) → SumsBetween D bs m m
-sums-none D bs m k a b = absurd (omega arith)
 
 pub sums-join : (D : ℕ) (bs : List ℕ) (m n o : ℕ) → SumsBetween D bs m n → SumsBetween D bs n o → SumsBetween D bs m o
 sums-join D bs m n o f g k a b = ⊎-elim (λ x. g k x b) (λ x. f k a x) (le-or-lt n k)
@@ -81,13 +79,15 @@ module _ {D d : ℕ} (h : d < D) where
   abbrev w : ℕ
   w = D - d
 
-  pub running-first : Running D d (2 ^ d) (2 ^ d * (D - d + 3)) (2 * (2 ^ d * (D - d + 2)))
-  running-first = record {
-    low = le-refl (2 ^ d);
-    high = omega arith;
-    own = ap (λ (x : ℕ). 2 ^ d * x) {x = w + 3} {y = w + 1 + 2} (omega arith) ∙ sym (row-from D d (w + 1) (omega arith));
-    kids = omega (arith, row-from D (d + 1) w (omega arith), ap (λ (x : ℕ). x * (w + 2)) (pow-next d), mul-assoc 2 (2 ^ d) (w + 2), ap (from D) (pow-next d));
-  }
+  pub running-first : {k p c : ℕ} → k ≡ 2 ^ d → p ≡ start D d (2 ^ d) → c ≡ start D (d + 1) (2 ^ (d + 1)) → Running D d k p c
+  running-first {k} e f g =
+      let two : 2 ^ (d + 1) ≡ 2 * k = omega (arith, pow-next d) in
+      record {
+        low = omega arith;
+        high = omega arith;
+        own = f ∙ sym (row-from D d) ∙ ap (from D) (sym e);
+        kids = g ∙ sym (row-from D (d + 1)) ∙ ap (from D) two;
+      }
 
   module _ {k p c : ℕ} (r : Running D d k p c) (hi : k < 2 * 2 ^ d) where
     own-next : from D (k + 1) ≡ p + (w + 1)
@@ -138,6 +138,3 @@ module _ {D d : ℕ} (h : d < D) where
           sum-lt = omega (arith, field-lt bs c w, field-lt bs (c + w) w, pow-next w);
           sum-small = pow-mono {i = w + 1} {j = 18} (omega arith);
         }
-
-  pub here-first : {bs : List ℕ} → Room D bs → Here D (D - d) bs (2 ^ d) (2 ^ d * (D - d + 3)) (2 * (2 ^ d * (D - d + 2)))
-  here-first room = here running-first (omega (arith, pow-pos d)) room

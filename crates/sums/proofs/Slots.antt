@@ -35,12 +35,9 @@ from D k = start D (depthOf k) k
 abbrev pub wide : ℕ → ℕ → ℕ
 wide D k = width D (depthOf k)
 
--- where the row of words of w bits starts
-pub row-from : (D d w : ℕ) → d + w ≡ D + 1 → from D (2 ^ d) ≡ 2 ^ d * (w + 2)
-row-from D d w h =
-    let o : depthOf (2 ^ d) ≡ d = depth-is {d = d} {n = 2 ^ d} (at-from (le-refl (2 ^ d)) (omega (arith, pow-next d, pow-pos d))) in
-    let e : D + 1 - d ≡ w = omega arith in
-    ap (λ (x : ℕ). start D x (2 ^ d)) o ∙ ap (λ (x : ℕ). 2 ^ (d + 1) + 2 ^ d * x) e ∙ omega (arith, mul-add (2 ^ d) w 2, pow-next d)
+-- where a row starts
+pub row-from : (D d : ℕ) → from D (2 ^ d) ≡ start D d (2 ^ d)
+row-from D d = ap (λ (x : ℕ). start D x (2 ^ d)) (depth-is {d = d} {n = 2 ^ d} (at-from (le-refl (2 ^ d)) (omega (arith, pow-next d, pow-pos d))))
 
 pub packed : (D k : ℕ) → k < 2 ^ (D + 1) → from D (k + 1) ≡ from D k + wide D k
 packed D zero h =
@@ -69,7 +66,7 @@ apart D j k h l = omega (arith, packed D j (omega arith), from-mono D (j + 1) k 
 
 pub from-top : (D : ℕ) → from D (2 ^ (D + 1)) ≡ 2 ^ (D + 2)
 from-top D =
-    ap (λ (d : ℕ). start D d (2 ^ (D + 1))) (depth-is {d = D + 1} {n = 2 ^ (D + 1)} (at-from (le-refl (2 ^ (D + 1))) (omega (arith, pow-next (D + 1), pow-pos (D + 1)))))
+    row-from D (D + 1)
     ∙ omega (arith, ap (λ (x : ℕ). 2 ^ (D + 1) * x) {x = D + 1 - (D + 1)} {y = 0} (omega arith), mul-zero (2 ^ (D + 1)), ap (λ (x : ℕ). 2 ^ x) {x = D + 1 + 1} {y = D + 2} (omega arith))
 
 -- every word lies in the panel
@@ -119,7 +116,7 @@ from-one D = ap (λ (d : ℕ). start D d 1) {x = depthOf 1} {y = 0} (depth-is at
 
 -- the leaf bits stand at the end
 pub from-leaf : (D : ℕ) → from D (2 ^ D) ≡ 3 * 2 ^ D
-from-leaf D = omega (arith, row-from D D 1 (omega arith))
+from-leaf D = omega (arith, row-from D D, pow-next D, ap (λ (x : ℕ). 2 ^ D * x) {x = D + 1 - D} {y = 1} (omega arith))
 
 -- the word that holds bit p
 pub holder : (D p n : ℕ) → n ≤ 2 ^ (D + 1) → 2 ≤ p → p < from D n → (k : ℕ) × (k < 2 ^ (D + 1)) × (from D k ≤ p) × (p < from D k + wide D k)

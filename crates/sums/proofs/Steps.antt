@@ -26,8 +26,8 @@ sum-fits D bs k p h =
     let b = ap (λ (x : ℕ). 2 ^ width D x) (depth-right k p) in
     omega (arith, word-lt D bs (2 * k), word-lt D bs (2 * k + 1))
 
-pub made-none : (D m : ℕ) (xs : List ℕ) → Made D m m xs xs
-made-none D m xs = record { long = refl; same = λ p h. refl; sums = λ k l h. absurd (omega arith) }
+pub made-none : (D m n : ℕ) (xs : List ℕ) → n ≡ m → Made D m n xs xs
+made-none D m n xs e = record { long = refl; same = λ p h. refl; sums = λ k l h. absurd (omega arith) }
 
 -- one word more
 module _ {D m k : ℕ} {xs ys : List ℕ} (one : 1 ≤ m) (low : m ≤ k) (row : k < 2 * m) (h : k < 2 ^ D) (room : 2 ^ (D + 2) ≤ 8 * length ys) (s : Made D m k xs ys) where

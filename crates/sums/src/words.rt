@@ -1,9 +1,9 @@
 // Words and leaf bits of a tree of sums in lent bytes.
 ghost use mathlib.Core.Path.{_≡_};
-ghost use Prim.Native.Nat.{_+_, _-_, _*_, _^_, _<_};
+ghost use Prim.Native.Nat.{_+_, _-_, _*_, _^_, _≤_, _<_};
 ghost use lib.ListN.{take, drop};
 ghost use Rattle.nodes.specs.Depth.{depthOf};
-ghost use Rattle.sums.specs.Words.{width, word, putWord, leafBit, putLeafBit, Room};
+ghost use Rattle.sums.specs.Words.{width, start, word, putWord, leafBit, putLeafBit, Room};
 
 // The depth of word k: that of node k, and 0 for word 0.
 fn depth_of(k: usize) -> usize
@@ -14,6 +14,14 @@ fn depth_of(k: usize) -> usize
         return 0;
     }
     nodes::depth(nodes::Node(k as u32)) as usize
+}
+
+// Where row d starts: the first bit of word 2^d.
+pub fn row_start(deep: usize, d: usize) -> usize
+    requires { ⌜ (d ≤ deep) × (deep ≤ 17) ⌝ }
+    ensures { λ r. ⌜ r ≡ start deep d (2 ^ d) ⌝ }
+{
+    (deep + 3 - d) << d
 }
 
 // Word k.

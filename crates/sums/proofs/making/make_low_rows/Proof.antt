@@ -1,13 +1,13 @@
 -- Each turn makes the seven sums over one leaf byte; the words that it puts stand apart from one another and from all leaf bits.
 use mathlib.Core.Path.{ap, _∙_, subst, subst⁻¹}
 use mathlib.Core.List.{List}
-use Prim.Native.Nat.{ℕ, _+_, _-_, _*_, _/_, _%_, _^_}
+use Prim.Native.Nat.{ℕ, _+_, _-_, _*_, _/_, _%_}
 use native.Mathlib.Omega.{arith}
 use lib.ListN.{length}
 use Rattle.bits.specs.Bits.{putField}
 use Rattle.bits.proofs.Laws.{field-lt}
 use Rattle.sums.specs.Rows.{Sevens}
-use Rattle.sums.proofs.Rooms.{Quarter, quarter}
+use Rattle.sums.proofs.Rooms.{quarterOf, Quarter, quarter}
 use Rattle.sums.proofs.Lowest.{LowMade, low-none, low-next, low-all}
 use Rattle.sums.proofs.making.make_low_rows.Statement.{statement}
 use Rattle.sums.proofs.making.make_low_rows.Tie as tie
@@ -17,10 +17,6 @@ Inv-loop bytes₀ deep m i₀ bytes i = Quarter deep (length bytes₀) m × LowM
 
 abbrev μ-loop : tie.MeasureT-loop
 μ-loop bytes₀ deep m i₀ bytes i = m - i
-
--- the number of leaf bytes
-abbrev quarterOf : ℕ → ℕ
-quarterOf deep = 1 * 2 ^ (deep - 3) % 2 ^ 64
 
 sub-m : tie.Need-sub-m Inv-loop μ-loop
 sub-m c = omega arith

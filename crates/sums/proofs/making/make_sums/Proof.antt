@@ -1,5 +1,5 @@
 -- Rows are made from the leaf bits up: a row's children's words are made before it, and making a row leaves all rows behind it.
-use mathlib.Core.Path.{_≡_, ap, _∙_, subst}
+use mathlib.Core.Path.{_≡_, refl, ap, _∙_, subst}
 use Prim.Native.Nat.{ℕ, _+_, _-_, _^_, _≤_}
 use native.Mathlib.Nat.{le-refl}
 use native.Mathlib.Omega.{arith}
@@ -23,7 +23,10 @@ sub-d : tie.Need-sub-d Inv-loop μ-loop
 sub-d c = omega arith
 
 loop-holds : tie.Need-loop-holds Inv-loop μ-loop
-loop-holds c = (omega arith, made-none (c .before .before .before .before .before .args .deep) (2 ^ (c .before .before .before .before .before .args .deep - 3)) (c .before .before .make-low-rows .last .0))
+loop-holds c =
+    let m = c .before .before in
+    let e = 2 ^ (m .before .before .before .args .deep - 3) in
+    (omega arith, made-none (m .before .before .before .args .deep) e e (m .make-low-rows .last .0) refl)
 
 sub-d-2 : tie.Need-sub-d-2 Inv-loop μ-loop
 sub-d-2 c = omega arith

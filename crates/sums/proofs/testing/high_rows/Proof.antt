@@ -4,7 +4,7 @@ use native.Mathlib.Omega.{arith}
 use lib.Pow.{pow-mono, pow-pos}
 use Rattle.nodes.proofs.Tables.{says-yes, says-no}
 use Rattle.sums.specs.Rows.{SumsBetween}
-use Rattle.sums.proofs.Rows.{sums-none, sums-join}
+use Rattle.sums.proofs.Rows.{sums-join}
 use Rattle.sums.proofs.testing.high_rows.Statement.{statement}
 use Rattle.sums.proofs.testing.high_rows.Tie as tie
 
@@ -15,7 +15,7 @@ abbrev μ-loop : tie.MeasureT-loop
 μ-loop bytes deep end d₀ d = end - d
 
 loop-holds : tie.Need-loop-holds Inv-loop μ-loop
-loop-holds c = (omega arith, sums-none (c .before .args .deep) (c .before .args .bytes .now) 1)
+loop-holds c = (omega arith, λ k lo hi. absurd (omega arith))
 
 row-requires : tie.Need-row-requires Inv-loop μ-loop
 row-requires c κs = (c .before .before .before .pre .0, omega arith)

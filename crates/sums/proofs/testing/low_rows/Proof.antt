@@ -2,13 +2,13 @@
 use mathlib.Core.Path.{_≡_, _∙_, subst, subst⁻¹}
 use mathlib.Core.Logic.{⊎-elim}
 use mathlib.Core.List.{List}
-use Prim.Native.Nat.{ℕ, _+_, _-_, _*_, _%_, _^_, _<_}
+use Prim.Native.Nat.{ℕ, _+_, _-_, _*_, _<_}
 use native.Mathlib.Omega.{arith}
 use lib.ListN.{length}
 use Rattle.bits.proofs.Laws.{field-lt, le-or-lt}
 use Rattle.nodes.proofs.Tables.{says-yes, says-no}
 use Rattle.sums.specs.Rows.{Sevens}
-use Rattle.sums.proofs.Rooms.{Quarter, quarter}
+use Rattle.sums.proofs.Rooms.{quarterOf, Quarter, quarter}
 use Rattle.sums.proofs.Lowest.{SevenAt, sevens-are, are-sevens, sevens-sums, sums-seven}
 use Rattle.sums.proofs.testing.low_rows.Statement.{statement}
 use Rattle.sums.proofs.testing.low_rows.Tie as tie
@@ -18,10 +18,6 @@ Inv-loop bytes deep m i₀ i = Quarter deep (length bytes) m × ((j : ℕ) → j
 
 abbrev μ-loop : tie.MeasureT-loop
 μ-loop bytes deep m i₀ i = m - i
-
--- the number of leaf bytes
-abbrev quarterOf : ℕ → ℕ
-quarterOf deep = 1 * 2 ^ (deep - 3) % 2 ^ 64
 
 -- what a turn reads
 record Read (bs : List ℕ) (m i s y z u : ℕ) : Type 0 where

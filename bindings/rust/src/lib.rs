@@ -1,0 +1,165 @@
+//! A panel that a scanner looks at, cut into triangles: the proved calls of this repository, for Rust.
+//!
+//! A panel is bytes that you own, 4 at depth 3 to 8,192 at depth 14; [`Panel`] lends them to the calls. Every call has an answer
+//! whatever the bytes are, damaged ones too: what you asked for, or a [`Refusal`], and then no byte has changed. There is nothing to set
+//! up, and nothing that can be called in the wrong order. What the calls promise is proved, see docs/PROMISES.md; this crate only
+//! gives it Rust's types.
+//!
+//! Triangles are named in two ways, which are two types. A [`Node`] says where a triangle is: node 1 is the whole panel, and node
+//! k is cut into 2k and 2k + 1. A [`LeafNumber`] counts the leaves, the triangles that are there at the moment, from 0 on the left.
+//!
+//! ```
+//! use jolpibhar::{LeafNumber, Node, Panel, Refusal};
+//!
+//! let mut panel = Panel::fresh(3)?; // leaves 2 and 3
+//! panel.split(Node(2))?; // and 3 with it: triangles meet side to side
+//! assert_eq!(panel.split(Node(8)), Err(Refusal::NotLeaf)); // there is no node 8 yet
+//! panel.split(Node(4))?;
+//!
+//! let mut leaves = Vec::new();
+//! for number in 0..panel.count()? {
+//!     leaves.push(panel.leaf_at(LeafNumber(number))?);
+//! }
+//! assert_eq!(leaves, [8, 9, 5, 6, 7].map(Node));
+//! assert_eq!(panel.number_of(Node(5))?, LeafNumber(2));
+//! assert_eq!(panel.bytes(), [0x4C, 0x4D, 0x56, 0x57]);
+//!
+//! panel.merge(Node(9))?; // takes the cut of 4 back
+//! assert_eq!(panel.count()?, 4);
+//!
+//! let around = Node(8).neighbours()?; // at its own depth, whether they are leaves or not
+//! assert_eq!((around.left, around.right, around.edge), (Some(Node(9)), None, Some(Node(15))));
+//! assert_eq!(Node(10).corners()?, [[0, 0], [128, 0], [128, 128]]);
+//! # Ok::<(), Refusal>(())
+//! ```
+//!
+//! To link, run `rt staticlib exports` in the repository first: it proves the calls and writes the archive.
+
+mod raw;
+mod refusal;
+
+pub use refusal::Refusal;
+
+/// A node's number, which says where its triangle is: node 1 is the whole panel, node k has the children 2k and 2k + 1.
+#[derive(Clone, Copy, Debug, PartialEq, Eq, Hash)]
+pub struct Node(pub u32);
+
+/// A leaf's number: how many leaves stand left of it.
+#[derive(Clone, Copy, Debug, PartialEq, Eq, PartialOrd, Ord, Hash)]
+pub struct LeafNumber(pub u32);
+
+/// The nodes of the same depth beside one: each on one of its sides, or none where that side is the panel's border.
+#[derive(Clone, Copy, Debug, PartialEq, Eq, Hash)]
+pub struct Neighbours {
+    /// Across the side B–C.
+    pub left: Option<Node>,
+    /// Across the side A–B.
+    pub right: Option<Node>,
+    /// Across the long side, A–C.
+    pub edge: Option<Node>,
+}
+
+impl Node {
+    /// The node's neighbours of its own depth. Refused: 3.
+    pub fn neighbours(self) -> Result<Neighbours, Refusal> {
+        let (answer, around) = raw::neighbours(self.0);
+        let [left, right, edge] = around.map(|k| (k != 0).then_some(Node(k)));
+        done(answer, Neighbours { left, right, edge })
+    }
+
+    /// The corners A, B, C of the node's triangle, each x and y, in a panel from (0,0) to (256,256). Its long side is A–C.
+    /// Refused: 3.
+    pub fn corners(self) -> Result<[[u32; 2]; 3], Refusal> {
+        let (answer, corners) = raw::corners(self.0);
+        done(answer, corners)
+    }
+}
+
+/// A panel over bytes of yours: a `Vec<u8>`, a `&mut [u8]`, or for the calls that only read a `&[u8]`.
+///
+/// It may hold any bytes. Each call judges them first, so that none has to be called before another.
+#[derive(Clone, Debug, PartialEq, Eq)]
+pub struct Panel<B>(B);
+
+impl Panel<Vec<u8>> {
+    /// A fresh panel of a depth from 3 to 14, in bytes of its own, with the leaves 2 and 3. Refused: 1.
+    pub fn fresh(depth: u32) -> Result<Self, Refusal> {
+        // no length fits any other depth, and the call says so
+        let length = if (3..=14).contains(&depth) { 1 << (depth - 1) } else { 0 };
+        let mut panel = Panel(vec![0; length]);
+        panel.open(depth)?;
+        Ok(panel)
+    }
+}
+
+impl<B: AsRef<[u8]>> Panel<B> {
+    /// A panel over these bytes, as they are.
+    pub fn over(bytes: B) -> Self {
+        Panel(bytes)
+    }
+
+    /// The bytes.
+    pub fn bytes(&self) -> &[u8] {
+        self.0.as_ref()
+    }
+
+    /// The bytes, handed back.
+    pub fn into_bytes(self) -> B {
+        self.0
+    }
+
+    /// Whether the panel is good. Refused: 1, 2.
+    pub fn judge(&self) -> Result<(), Refusal> {
+        done(raw::judge(self.bytes()), ())
+    }
+
+    /// How many leaves there are. Refused: 1, 2.
+    pub fn count(&self) -> Result<u32, Refusal> {
+        let (answer, count) = raw::count(self.bytes());
+        done(answer, count)
+    }
+
+    /// The leaf of a number. Refused: 1, 2, 8.
+    pub fn leaf_at(&self, number: LeafNumber) -> Result<Node, Refusal> {
+        let (answer, node) = raw::leaf(self.bytes(), number.0);
+        done(answer, Node(node))
+    }
+
+    /// The number of a leaf. Refused: 1, 2, 3, 4.
+    pub fn number_of(&self, leaf: Node) -> Result<LeafNumber, Refusal> {
+        let (answer, number) = raw::number(self.bytes(), leaf.0);
+        done(answer, LeafNumber(number))
+    }
+
+    /// The leaf bits: those bytes of the panel themselves. Refused: 1, 2.
+    pub fn leaf_bits(&self) -> Result<&[u8], Refusal> {
+        let bytes = self.bytes();
+        let (answer, [start, length]) = raw::leaf_bits(bytes);
+        done(answer, &bytes[start..start + length])
+    }
+}
+
+impl<B: AsRef<[u8]> + AsMut<[u8]>> Panel<B> {
+    /// Writes every byte: the fresh panel of a depth, with the leaves 2 and 3. Refused: 1, also where the depth doesn't fit the bytes.
+    pub fn open(&mut self, depth: u32) -> Result<(), Refusal> {
+        done(raw::open(self.0.as_mut(), depth), ())
+    }
+
+    /// Cuts a leaf, and what must be cut with it so that the panel stays good. Refused: 1, 2, 3, 4, 5.
+    pub fn split(&mut self, leaf: Node) -> Result<(), Refusal> {
+        done(raw::split(self.0.as_mut(), leaf.0), ())
+    }
+
+    /// Takes back the cut that made a leaf, and the one across the long side. Refused: 1, 2, 3, 4, 6, 7.
+    pub fn merge(&mut self, leaf: Node) -> Result<(), Refusal> {
+        done(raw::merge(self.0.as_mut(), leaf.0), ())
+    }
+}
+
+/// What a call hands out where its answer is 0, and else the refusal.
+fn done<T>(answer: u32, given: T) -> Result<T, Refusal> {
+    match answer {
+        0 => Ok(given),
+        number => Err(Refusal::of_number(number).expect("a call answers 0 to 9")),
+    }
+}

@@ -1,0 +1,65 @@
+//! The crate's own part: that numbers become the right types, and that a panel may stand over bytes of any owner.
+
+use jolpibhar::{LeafNumber, Node, Panel, Refusal};
+
+/// The panel of depth 3 with the leaves 8, 9, 5, 6, 7.
+fn five() -> Panel<Vec<u8>> {
+    let mut panel = Panel::fresh(3).unwrap();
+    panel.split(Node(2)).unwrap();
+    panel.split(Node(4)).unwrap();
+    panel
+}
+
+#[test]
+fn every_refusal_of_a_call() {
+    assert_eq!(Panel::fresh(15).unwrap_err(), Refusal::WrongLength);
+    assert_eq!(Panel::over([0; 5]).judge(), Err(Refusal::WrongLength));
+    assert_eq!(Panel::over([0; 4]).judge(), Err(Refusal::NotGood));
+    assert_eq!(five().number_of(Node(16)), Err(Refusal::NoSuchNode));
+    assert_eq!(Node(1).neighbours(), Err(Refusal::NoSuchNode));
+    assert_eq!(Node(32_768).corners(), Err(Refusal::NoSuchNode));
+    assert_eq!(five().number_of(Node(4)), Err(Refusal::NotLeaf));
+    assert_eq!(five().split(Node(8)), Err(Refusal::AtGreatestDepth));
+    assert_eq!(Panel::fresh(3).unwrap().merge(Node(2)), Err(Refusal::AtDepthOne));
+    assert_eq!(five().merge(Node(5)), Err(Refusal::LeavesMissing));
+    assert_eq!(five().leaf_at(LeafNumber(5)), Err(Refusal::NoSuchNumber));
+}
+
+#[test]
+fn numbers_of_refusals() {
+    let numbers: Vec<u32> = Refusal::ALL.iter().map(|refusal| refusal.number()).collect();
+    assert_eq!(numbers, [1, 2, 3, 4, 5, 6, 7, 8, 9]);
+    assert!(Refusal::ALL.iter().all(|refusal| Refusal::of_number(refusal.number()) == Some(*refusal)));
+    assert_eq!([0, 10, u32::MAX].map(Refusal::of_number), [None; 3]);
+    assert_eq!(Refusal::NotLeaf.to_string(), "the node isn't a leaf");
+}
+
+#[test]
+fn bytes_of_any_owner() {
+    let mut bytes = [0xFF; 6];
+    let mut lent = Panel::over(&mut bytes[1..5]);
+    lent.open(3).unwrap();
+    assert_eq!(lent.split(Node(4)), Err(Refusal::NotLeaf));
+    lent.split(Node(3)).unwrap();
+    assert_eq!(bytes, [0xFF, 0x0C, 0x49, 0x55, 0x55, 0xFF]);
+    let read = Panel::over(&bytes[1..5]);
+    assert_eq!(read.count(), Ok(4));
+    assert_eq!(read.into_bytes(), [0x0C, 0x49, 0x55, 0x55]);
+}
+
+#[test]
+fn leaf_bits_are_the_panels_own() {
+    let panel = five();
+    assert_eq!(panel.leaf_bits().unwrap().as_ptr_range(), panel.bytes()[3..].as_ptr_range());
+    assert_eq!(Panel::over([0; 8]).leaf_bits(), Err(Refusal::NotGood));
+    assert_eq!(Panel::fresh(14).unwrap().leaf_bits().unwrap().len(), 2048);
+}
+
+#[test]
+fn leaves_and_numbers() {
+    let panel = five();
+    for (number, node) in [8, 9, 5, 6, 7].map(Node).into_iter().enumerate() {
+        let number = LeafNumber(number as u32);
+        assert_eq!((panel.leaf_at(number), panel.number_of(node)), (Ok(node), Ok(number)));
+    }
+}
