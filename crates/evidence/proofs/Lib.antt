@@ -6,3 +6,5 @@ pub mod Growth
 pub mod ThereAndBack
 pub mod Sequences
 pub mod Numbers
+pub mod Exactly
+pub mod Demands

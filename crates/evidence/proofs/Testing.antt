@@ -1,5 +1,5 @@
 -- Tests of a panel's bytes. A node is cut where the one bit that names it is set, so all else is told by finitely many bits.
-use mathlib.Core.Path.{_≡_, refl}
+use mathlib.Core.Path.{_≡_}
 use mathlib.Core.Bool.{Bool, false, not, _&&_, _||_, So}
 use mathlib.Core.Logic.{_↔_}
 use mathlib.Core.List.{List}

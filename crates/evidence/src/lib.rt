@@ -1,1 +1,2 @@
-// What document 01 says of known panels, proved from the definitions. There is no function here: specs/ has the cases, proofs/ the theorem.
+// Theorems of the whole: the known panels of document 01, what any run of calls keeps, and the customer's three demands. There is no
+// function here: specs/ has the known cases, proofs/ the theorems, Demands.antt first of all.

@@ -1,7 +1,7 @@
 -- What the steps of opening a panel leave. Only this crate's own functions speak of it.
 use mathlib.Core.Path.{_≡_}
 use mathlib.Core.List.{List}
-use Prim.Native.Nat.{ℕ, _<_}
+use Prim.Native.Nat.{ℕ}
 use lib.ListN.{length, getD}
 
 -- t is as long as s, and every byte of it is zero

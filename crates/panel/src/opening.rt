@@ -1,8 +1,6 @@
 // Opening a lent panel.
 use nodes::Answer;
 use nodes::Refusal;
-ghost use mathlib.Core.Path.{_≡_};
-ghost use Prim.Native.Nat.{_≤_};
 ghost use Rattle.nodes.specs.Refusals.{answerNumber};
 ghost use Rattle.nodes.specs.Table.{Says};
 ghost use Rattle.panel.specs.Panels.{Fits};

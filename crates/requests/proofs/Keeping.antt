@@ -15,7 +15,7 @@ use Rattle.requests.specs.Requests.Called.{opened, refused, split, merge
 use Rattle.requests.specs.Requests.Step.{bad, call}
 use Rattle.requests.specs.Requests.Runs.{none, more}
 use Rattle.requests.specs.Holding.{Holds}
-use Rattle.requests.proofs.Parts.{fits-size, none-right, panel-changed, same-changed, held-length}
+use Rattle.requests.proofs.Parts.{fits-size, no-room, none-right, panel-changed, same-changed, held-length}
 
 -- ---- a refusal changes nothing
 
@@ -76,6 +76,17 @@ runs-holds (more r s y) = step-holds (runs-holds r) s
 -- what a run leaves open is good
 pub run-holds : {rs b out u after : List ℕ} {count D : ℕ} → Run rs b out count D u after → Holds D u
 run-holds r = runs-holds (r .runs)
+
+-- ---- where an open is refused
+
+-- an open answers 1 where the buffer's bytes fit no panel of the asked depth ..
+pub open-refused : {k D n E : ℕ} {b u : List ℕ} → Called k D b 0 n E u → (Fits (panelIn k b) k → ⊥) → n ≡ 1
+open-refused (opened p) f = ⊎-elim (λ a. a .1) (λ a. absurd (f (a .0))) (p .answer)
+open-refused (refused p z) f = ⊎-elim (λ a. a .1) (λ a. absurd (f (a .0))) (p .answer)
+
+-- .. as where the lent buffer is shorter than such a panel
+pub short-refused : {k D n E : ℕ} {b u : List ℕ} → Called k D b 0 n E u → length b < sizeOf k → n ≡ 1
+short-refused {k} {b = b} p h = open-refused p (no-room k b h)
 
 -- ---- before the first accepted open
 

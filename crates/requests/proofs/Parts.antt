@@ -45,6 +45,10 @@ module _ (D : ℕ) (b : List ℕ) where
   pub inside : length (panelIn D b) ≡ sizeOf D → sizeOf D ≤ length b
   inside e = omega (arith, length-take (sizeOf D) b)
 
+  -- a buffer that is too short fits no panel of that depth
+  pub no-room : length b < sizeOf D → Fits (panelIn D b) D → ⊥
+  no-room h f = omega (arith, inside (fits-size f))
+
   -- what was put there is there
   pub panel-changed : (t : List ℕ) → length t ≡ sizeOf D → panelIn D (changed D b t) ≡ t
   panel-changed t e = take-at t (drop (sizeOf D) b) (sizeOf D) e

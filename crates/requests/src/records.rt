@@ -44,6 +44,7 @@ pub fn number_of(request: &[u8]) -> u32
     wide(request[4]) + 256 * (wide(request[5]) + 256 * (wide(request[6]) + 256 * wide(request[7])))
 }
 
+// The lesser of the two.
 pub fn least(a: usize, b: usize) -> usize
     ensures { λ r. ⌜ r ≡ min a b ⌝ }
 {

@@ -7,7 +7,7 @@ use nodes::Refusal;
 ghost use mathlib.Core.Path.{_≡_};
 ghost use Prim.Native.Nat.{_≤_};
 ghost use Rattle.nodes.specs.Limits.{greatestDepth};
-ghost use Rattle.nodes.specs.Refusals.{answerNumber};
+ghost use Rattle.nodes.specs.Refusals.{refusalNumber, answerNumber};
 ghost use Rattle.requests.specs.Requests.{sizeOf, Called, Step};
 ghost use Rattle.requests.specs.Holding.{Holds};
 
@@ -28,23 +28,27 @@ pub fn size(deep: usize) -> usize
     1usize << (deep - 1)
 }
 
+// What a refused record comes to: the panel before it is kept.
+fn kept(deep: usize, e: Refusal) -> Stepped
+    ensures { λ r. ⌜ (answerNumber (r .answer) ≡ refusalNumber e) × (r .deep ≡ deep) ⌝ }
+{
+    Stepped {
+        answer: Answer::No(e),
+        deep,
+    }
+}
+
 // Opens a panel of this depth at the start of the buffer. A refused open keeps the panel before it.
 fn open(buffer: &mut [u8], deep: usize, depth: u32) -> Stepped
     ensures { λ r. ⌜ Called depth deep (now (buffer .entry)) 0 (answerNumber (r .answer)) (r .deep) (now (buffer .exit)) ⌝ }
 {
     let asked = depth as usize;
     if nodes::GREATEST_DEPTH < asked {
-        return Stepped {
-            answer: Answer::No(Refusal::WrongLength),
-            deep,
-        };
+        return kept(deep, Refusal::WrongLength);
     }
     let len = size(asked);
     if buffer.len() < len {
-        return Stepped {
-            answer: Answer::No(Refusal::WrongLength),
-            deep,
-        };
+        return kept(deep, Refusal::WrongLength);
     }
     let answer = panel::opening::open(&mut buffer[..len], depth);
     match answer {
@@ -52,10 +56,7 @@ fn open(buffer: &mut [u8], deep: usize, depth: u32) -> Stepped
             answer: Answer::Done,
             deep: asked,
         },
-        Answer::No(e) => Stepped {
-            answer: Answer::No(e),
-            deep,
-        },
+        Answer::No(e) => kept(deep, e),
     }
 }
 
@@ -101,8 +102,5 @@ pub fn step(request: &[u8], buffer: &mut [u8], deep: usize) -> Stepped
         let answer = merge(buffer, deep, number);
         return Stepped { answer, deep };
     }
-    Stepped {
-        answer: Answer::No(Refusal::BadRecord),
-        deep,
-    }
+    kept(deep, Refusal::BadRecord)
 }

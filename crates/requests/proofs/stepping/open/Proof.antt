@@ -1,19 +1,25 @@
 -- The call is lent the bytes that a panel of the asked depth takes; where they are too few, or the depth too great, they fit none.
 use native.Mathlib.Omega.{arith}
 use lib.ListN.{length-take}
-use Rattle.requests.proofs.Answering.{too-deep, too-short, open-done, open-no}
+use Rattle.requests.proofs.Answering.{called-kept, too-deep, too-short, open-done, open-no}
 use borrow.Author.Needs.{needs}
 use Rattle.requests.proofs.stepping.open.Statement.{statement}
 use Rattle.requests.proofs.stepping.open.Tie as tie
 
+kept-requires : tie.Need-kept-requires
+kept-requires c κs = search needs
+
 returns : tie.Need-returns
-returns c = too-deep _ _ _ (c .if1 .taken)
+returns c = called-kept (c .kept .ensures) (too-deep _ _ _ (c .before .if1 .taken))
 
 size-requires : tie.Need-size-requires
 size-requires c κs = search needs
 
+kept-requires-2 : tie.Need-kept-requires-2
+kept-requires-2 c κs = search needs
+
 returns-2 : tie.Need-returns-2
-returns-2 c = too-short _ _ _ (omega (arith, c .before .size .ensures))
+returns-2 c = called-kept (c .kept2 .ensures) (too-short _ _ _ (omega (arith, c .before .before .size .ensures)))
 
 slice-relend-prefix-open : tie.Need-slice-relend-prefix-open
 slice-relend-prefix-open c = search needs
@@ -30,6 +36,9 @@ enum-told c = search needs
 enum-known-answer : tie.Need-enum-known-answer
 enum-known-answer c = search needs
 
+kept-requires-3 : tie.Need-kept-requires-3
+kept-requires-3 c κs = search needs
+
 same-length : tie.Need-same-length
 same-length c = search needs
 
@@ -43,21 +52,25 @@ same-length-2 c = search needs
 
 returns-4 : tie.Need-returns-4
 returns-4 c =
-    let o = c .before .before .before .before .before in
-    open-no _ _ _ _ _ (o .before .before .before .size .ensures) (o .«open» .ensures) (c .before .answer .given .1)
+    let o = c .before .before .before .before .before .before in
+    called-kept (c .kept3 .ensures)
+    (open-no _ _ _ _ _ (o .before .before .before .size .ensures) (o .«open» .ensures) (c .before .before .answer .given .1))
 
 pub open-spec : {M : Type 1} → statement M
 open-spec =
     tie.close
     (tie.spec
+    kept-requires
     returns
     size-requires
+    kept-requires-2
     returns-2
     slice-relend-prefix-open
     slice-aggregate-open
     open-requires
     enum-told
     enum-known-answer
+    kept-requires-3
     same-length
     returns-3
     same-length-2

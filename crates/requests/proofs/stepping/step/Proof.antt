@@ -3,7 +3,7 @@ use mathlib.Core.Path.{sym}
 use native.Mathlib.Omega.{arith}
 use Rattle.requests.specs.Requests.{Fine}
 use Rattle.requests.specs.Requests.Step.{bad}
-use Rattle.requests.proofs.Answering.{step-call}
+use Rattle.requests.proofs.Answering.{step-call, step-kept}
 use borrow.Author.Needs.{needs}
 use Rattle.requests.proofs.stepping.step.Statement.{statement}
 use Rattle.requests.proofs.stepping.step.Tie as tie
@@ -61,8 +61,11 @@ returns-3 c =
     let f = is-fine (n .before) in
     step-call f (n .number-of .ensures) (omega (arith, f .kinds, k .if3 .left, k .before .if2 .left)) (m .merge .ensures)
 
+kept-requires : tie.Need-kept-requires
+kept-requires c κs = search needs
+
 returns-4 : tie.Need-returns-4
-returns-4 c = bad (c .before .fine .ensures .no (c .if1 .left))
+returns-4 c = step-kept (c .kept .ensures) (bad (c .before .before .fine .ensures .no (c .before .if1 .left)))
 
 pub step-spec : {M : Type 1} → statement M
 step-spec =
@@ -80,4 +83,5 @@ step-spec =
     merge-requires
     same-length-3
     returns-3
+    kept-requires
     returns-4)

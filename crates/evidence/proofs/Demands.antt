@@ -1,0 +1,218 @@
+-- The customer's three demands, each one theorem that cites what it rests on. They speak of the relations that the contracts of the calls
+-- promise. That each call ends, touches no other memory and meets its contract, so that every input has an outcome, is the checker's
+-- verdict on each function and no theorem here.
+use mathlib.Core.Path.{_≡_, refl, sym, ap, ap₂, _∙_}
+use mathlib.Core.Logic.{_≢_, _⊎_, _↔_}
+use mathlib.Core.List.{List, [], _∷_, _++_}
+use Prim.Native.Nat.{ℕ, zero, suc, _+_, _-_, _*_, _/_, _^_, _≤_, _<_}
+use native.Mathlib.Omega.{arith}
+use Rattle.bits.specs.Bits.{Bytes}
+use Rattle.nodes.specs.declared.triples.Triple.{Triple}
+use Rattle.nodes.specs.Depth.{depthOf}
+use Rattle.nodes.specs.Limits.{KnownNode}
+use Rattle.nodes.specs.Neighbours.{none, neighboursOf, edge}
+use Rattle.nodes.specs.Corners.{Triangle, InPanel, cornersOf, twiceArea}
+use Rattle.nodes.specs.Table.{Row, unless, Outcome}
+use Rattle.nodes.specs.Calls.{nodeRows, Neighbours, noCorners, Corners}
+use Rattle.nodes.proofs.Depths.{depth-le}
+use Rattle.nodes.proofs.Edges.{edge-mutual}
+use Rattle.nodes.proofs.Neighbouring.{left-right}
+use Rattle.nodes.proofs.Sides.{Across, Beside, edge-across, left-beside}
+use Rattle.nodes.proofs.Borders.{Border, border}
+use Rattle.nodes.proofs.Cornering.{in-panel}
+use Rattle.nodes.proofs.Areas.{area-is}
+use Rattle.nodes.proofs.Outcomes.{neighbours-one, corners-one}
+use Rattle.sums.specs.Rank.{rank}
+use Rattle.sums.specs.Words.{word, leafBit}
+use Rattle.sums.proofs.Counts.{word-all}
+use Rattle.cuts.specs.Cuts.{CoverOnce}
+use Rattle.cuts.proofs.Areas.{total}
+use Rattle.panel.specs.Panels.{Fits, deepOf, CutOf, Good, LeafOf, leafCount}
+use Rattle.panel.specs.Calls.{panelRows, leafRows, Judged, Count, LeafBits, LeafAt, NumberOf, Open, SplitAt, Split, Together, MergeAt, Merge}
+use Rattle.panel.proofs.GoodPanels.{leaf-in-range, leaf-areas}
+use Rattle.panel.proofs.SameBytes.{bytes-same}
+use Rattle.panel.proofs.Once.{judge-one, count-one, leaf-bits-one, leaf-at-one, number-of-one, open-one, split-one, merge-one}
+use Rattle.requests.specs.Requests.{Fine, Called, Step, Run}
+use Rattle.requests.specs.Requests.Called.{opened, refused, split as splits, merge as merges}
+use Rattle.requests.specs.Requests.Step.{bad, call}
+use Rattle.requests.specs.Holding.{Holds}
+use Rattle.requests.proofs.Once.{step-one, run-one}
+use Rattle.requests.proofs.Keeping.{step-refused, run-holds}
+use Rattle.evidence.specs.Known.{Every, knownCases}
+use Rattle.evidence.proofs.Exactly.{Rising, Exactly, refused-exactly, outcome-under}
+use Rattle.evidence.proofs.Known.{known}
+use Rattle.evidence.proofs.Numbers.{NumbersName, numbers-name, number-of-leaf-at, leaf-at-number-of}
+use Rattle.evidence.proofs.Sequences.{Reached, always-good, always-covers, always-long-side, split-grows, back-answers, back-restores, again-restores}
+
+-- ---- demand 1: every input of every call has one outcome, refusals are exact, and what is lent is kept where a call refuses
+
+-- what is asked of a call that answers n and leaves x behind where R n x, by the table `rows`: two outcomes are equal, each number is answered
+-- exactly under its row's condition, and beside a refusal x is `kept`. B says what x is by its type
+pub record Settled (rows : List Row) (A : Type 0) (B : A → Type 0) (kept : A) (R : ℕ → A → Type 0) : Type 0 where
+  pub one : (n m : ℕ) (x y : A) → B x → B y → R n x → R m y → (n ≡ m) × (x ≡ y)
+  pub exact : (n : ℕ) (x : A) → R n x → Exactly rows n
+  pub keeps : (n : ℕ) (x : A) → R n x → n ≢ 0 → x ≡ kept
+
+-- any value of the type
+abbrev Any : (A : Type 0) → A → Type 0
+Any A x = Unit {0}
+
+settled : (rows : List Row) (A : Type 0) (B : A → Type 0) (kept : A) (Done : A → Type 0) → Rising 0 rows
+    → ((n m : ℕ) (x y : A) → B x → B y → Outcome rows A Done (λ z. z ≡ kept) n x → Outcome rows A Done (λ z. z ≡ kept) m y → (n ≡ m) × (x ≡ y))
+    → Settled rows A B kept (Outcome rows A Done (λ z. z ≡ kept))
+settled rows A B kept Done u one = record {
+  one = one;
+  exact = λ n x o. refused-exactly rows n u (o .answer);
+  keeps = λ n x o z. o .refused z;
+}
+
+pub record Demand1 : Type 0 where
+  pub judge : (s : List ℕ) → Settled (panelRows s) (Unit {0}) (Any (Unit {0})) tt (λ n x. Judged s n)
+  pub count : (s : List ℕ) → Settled (panelRows s) ℕ (Any ℕ) 0 (Count s)
+  pub leaf-bits : (s : List ℕ) → Settled (panelRows s) (List ℕ) (Any (List ℕ)) [] (LeafBits s)
+  pub leaf-at : (s : List ℕ) (i : ℕ) → Settled (panelRows s ++ unless 8 (i < leafCount s) ∷ []) ℕ (Any ℕ) 0 (LeafAt s i)
+  pub number-of : (s : List ℕ) (k : ℕ) → Settled (leafRows s k) ℕ (Any ℕ) 0 (NumberOf s k)
+  pub opens : (s : List ℕ) (D : ℕ) → Settled (unless 1 (Fits s D) ∷ []) (List ℕ) Bytes s (Open s D)
+  pub split : (s : List ℕ) (k : ℕ) → Settled (leafRows s k ++ unless 5 (depthOf k < deepOf s) ∷ []) (List ℕ) Bytes s (Split s k)
+  pub merge : (s : List ℕ) (k : ℕ) → Settled (leafRows s k ++ unless 6 (1 < depthOf k) ∷ unless 7 (Together s k) ∷ []) (List ℕ) Bytes s (Merge s k)
+  pub neighbours : (n : ℕ) → Settled (nodeRows n) Triple (Any Triple) none (Neighbours n)
+  pub corners : (n : ℕ) → Settled (nodeRows n) Triangle (Any Triangle) noCorners (Corners n)
+  -- one record: 9 exactly where it is bad, and else its call's answer; a refused one; a run of records
+  pub step : {r b u v : List ℕ} {D n m E F : ℕ} → Bytes u → Bytes v → Step r D b n E u → Step r D b m F v → (n ≡ m) × (E ≡ F) × (u ≡ v)
+  pub step-bad : {r b u : List ℕ} {D n E : ℕ} → Step r D b n E u → (n ≡ 9) ↔ (Fine r → ⊥)
+  pub step-keeps : {r b u : List ℕ} {D n E : ℕ} → Step r D b n E u → n ≢ 0 → (E ≡ D) × (u ≡ b)
+  pub run : {rs b out u v x y : List ℕ} {n m D E : ℕ} → Run rs b out n D u x → Run rs b out m E v y → (n ≡ m) × (D ≡ E) × (u ≡ v) × (x ≡ y)
+
+-- no call answers 9
+called-under : {k D c n E : ℕ} {b u : List ℕ} → Called k D b c n E u → n < 9
+called-under (opened o) = omega arith
+called-under (refused o z) = outcome-under 9 (omega arith) o
+called-under (splits o) = outcome-under 9 (omega arith) o
+called-under (merges o) = outcome-under 9 (omega arith) o
+
+nine-exactly : {r b u : List ℕ} {D n E : ℕ} → Step r D b n E u → (n ≡ 9) ↔ (Fine r → ⊥)
+nine-exactly (bad f) = (λ e. f, λ g. refl)
+nine-exactly (call g c) = (λ e. absurd (let h = called-under c in omega arith), λ f. absurd (f g))
+
+pub demand-1 : Demand1
+demand-1 = record {
+  judge = λ s. record {
+    one = λ n m x y _ _ p q. (judge-one s n m p q, refl);
+    exact = λ n x a. refused-exactly (panelRows s) n (omega arith) a;
+    keeps = λ n x a z. refl;
+  };
+  count = λ s. settled _ _ _ _ _ (omega arith) (λ n m x y _ _. count-one s n m x y);
+  leaf-bits = λ s. settled _ _ _ _ _ (omega arith) (λ n m x y _ _. leaf-bits-one s n m x y);
+  leaf-at = λ s i. settled _ _ _ _ _ (omega arith) (λ n m x y _ _. leaf-at-one s i n m x y);
+  number-of = λ s k. settled _ _ _ _ _ (omega arith) (λ n m x y _ _. number-of-one s k n m x y);
+  opens = λ s D. settled _ _ _ _ _ (omega arith) (open-one s D);
+  split = λ s k. settled _ _ _ _ _ (omega arith) (split-one s k);
+  merge = λ s k. settled _ _ _ _ _ (omega arith) (merge-one s k);
+  neighbours = λ n. settled _ _ _ _ _ (omega arith) (λ a b x y _ _. neighbours-one n a b x y);
+  corners = λ n. settled _ _ _ _ _ (omega arith) (λ a b x y _ _. corners-one n a b x y);
+  step = step-one;
+  step-bad = nine-exactly;
+  step-keeps = step-refused;
+  run = run-one;
+}
+
+-- ---- demand 2: numbers name leaves both ways, and the bytes are the paper's
+
+-- what holds of a good panel
+pub record Read (s : List ℕ) : Type 0 where
+  -- numbers 0 to the count less 1, and no others, name every leaf once, left to right; number of leaf and leaf by number undo each other
+  pub names : NumbersName s
+  pub back : (i k : ℕ) → LeafAt s i 0 k → NumberOf s k 0 i
+  pub forth : (k i : ℕ) → NumberOf s k 0 i → LeafAt s i 0 k
+  -- the count is word 1, and counts the leaf bits that are set
+  pub counts : (c : ℕ) → Count s 0 c → (c ≡ word (deepOf s) s 1) × (c ≡ rank (leafBit (deepOf s) s) (2 ^ deepOf s))
+  -- cuts settle the bytes
+  pub same : (t : List ℕ) → Good t → deepOf s ≡ deepOf t → Bytes s → Bytes t → ((n : ℕ) → 1 ≤ n → (CutOf s n ↔ CutOf t n)) → s ≡ t
+  -- twice the leaves' areas, by the corners that are handed out, sum to 131,072
+  pub areas : (leaf : ℕ → ℕ) (corners : ℕ → Triangle) → ((i : ℕ) → i < leafCount s → LeafAt s i 0 (leaf i) × Corners (leaf i) 0 (corners i))
+      → total (λ i. twiceArea (corners i)) (leafCount s) ≡ 131072
+
+-- what holds of a node's neighbours and corners: those that the calls hand out, by their outcomes
+pub record Placed (n : ℕ) : Type 0 where
+  pub edge-back : edge n ≢ 0 → edge (edge n) ≡ n
+  pub left-back : (y : ℕ) → y ≢ 0 → (neighboursOf n .left ≡ y) ↔ (neighboursOf y .right ≡ n)
+  pub across : neighboursOf n .edge ≢ 0 → Across (cornersOf (neighboursOf n .edge)) (cornersOf n)
+  pub beside : neighboursOf n .left ≢ 0 → Beside (cornersOf (neighboursOf n .left)) (cornersOf n)
+  pub at-border : Border n
+  pub inside : InPanel (cornersOf n)
+  pub area : twiceArea (cornersOf n) ≡ 2 ^ (17 - depthOf n)
+
+pub record Demand2 : Type 0 where
+  pub panel : (s : List ℕ) → Good s → Read s
+  pub node : (n : ℕ) → KnownNode n → Placed n
+  pub cases : Every knownCases
+
+total-same : (f g : ℕ → ℕ) (c : ℕ) → ((i : ℕ) → i < c → f i ≡ g i) → total f c ≡ total g c
+unfolding total
+total-same f g zero e = refl
+total-same f g (suc c) e = ap₂ (λ x y. x + y) (total-same f g c (λ i h. e i (omega arith))) (e c (omega arith))
+
+leaf-area : (s : List ℕ) → Good s → (i k : ℕ) (t : Triangle) → LeafAt s i 0 k → Corners k 0 t → twiceArea t ≡ 2 ^ (17 - depthOf k)
+leaf-area s G i k t a c =
+    let l = a .done refl .leaf in
+    ap twiceArea (c .done refl) ∙ area-is k (l .low) (omega (arith, G .fits .high, depth-le k (deepOf s) (leaf-in-range s G k l .high)))
+
+panel-read : (s : List ℕ) → Good s → Read s
+panel-read s G = record {
+  names = numbers-name s G;
+  back = number-of-leaf-at s;
+  forth = leaf-at-number-of s;
+  counts = λ c o. (o .done refl, o .done refl ∙ word-all (deepOf s) s (G .right .sums));
+  same = λ t T e. bytes-same G T (G .fits .long ∙ ap (λ (D : ℕ). 2 ^ (D - 1)) e ∙ sym (T .fits .long));
+  areas = λ leaf corners L.
+      total-same (λ i. twiceArea (corners i)) (λ i. 2 ^ (17 - depthOf (leaf i))) (leafCount s)
+      (λ i h. leaf-area s G i (leaf i) (corners i) (L i h .0) (L i h .1))
+      ∙ leaf-areas s G leaf (λ i h. L i h .0 .done refl);
+}
+
+node-placed : (n : ℕ) → KnownNode n → Placed n
+node-placed n k =
+    let d : depthOf n ≤ 17 = omega (arith, depth-le n 14 (k .high)) in record {
+      edge-back = edge-mutual n;
+      left-back = λ y. left-right n y (k .low);
+      across = edge-across n (k .low);
+      beside = left-beside n (k .low);
+      at-border = border n (k .low) d;
+      inside = in-panel n (k .low);
+      area = area-is n (k .low) d;
+    }
+
+pub demand-2 : Demand2
+demand-2 = record { panel = panel-read; node = node-placed; cases = known }
+
+-- ---- demand 3: any sequence of calls keeps covering and the long side rule; splits are smallest and bounded, merges exact
+
+pub record Demand3 : Type 0 where
+  -- after an accepted open and any outcomes of split and merge; and after a run of records
+  pub good : {t : List ℕ} → Reached t → Good t
+  pub covers : {t : List ℕ} → Reached t → CoverOnce (deepOf t) (CutOf t)
+  pub long-side : {t : List ℕ} → Reached t → (n : ℕ) → 2 ≤ n → CutOf t n → edge n ≢ 0 → CutOf t (edge n)
+  pub after-records : {rs b out u after : List ℕ} {count D : ℕ} → Run rs b out count D u after → Holds D u
+  -- the smallest good panel that holds every old cut and k's; at least one leaf more, and at most twice k's depth
+  pub smallest : {s : List ℕ} {k : ℕ} {t : List ℕ} → Split s k 0 t → SplitAt s k t
+  pub bounded : {s : List ℕ} {k : ℕ} {t : List ℕ} → Split s k 0 t → (leafCount s + 1 ≤ leafCount t) × (leafCount t ≤ leafCount s + 2 * depthOf k)
+  -- exactly the parent's cut and the one across
+  pub exact : {s : List ℕ} {k : ℕ} {t : List ℕ} → Merge s k 0 t → MergeAt s k t
+  -- after a split its merge is accepted, and leads back exactly where k's edge neighbour was none or a leaf; after a merge the split leads back
+  pub accepted : {s : List ℕ} {k : ℕ} {t : List ℕ} → Split s k 0 t → (n : ℕ) (u : List ℕ) → Merge t (2 * k) n u → n ≡ 0
+  pub back : {s : List ℕ} {k : ℕ} {t u : List ℕ} → Bytes s → Bytes u → Split s k 0 t → Merge t (2 * k) 0 u → (u ≡ s) ↔ ((edge k ≡ 0) ⊎ LeafOf s (edge k))
+  pub again : {s : List ℕ} {k : ℕ} {t : List ℕ} → Bytes s → Merge s k 0 t → (n : ℕ) (u : List ℕ) → Bytes u → Split t (k / 2) n u → (n ≡ 0) × (u ≡ s)
+
+pub demand-3 : Demand3
+demand-3 = record {
+  good = always-good;
+  covers = always-covers;
+  long-side = always-long-side;
+  after-records = run-holds;
+  smallest = λ o. o .done refl;
+  bounded = split-grows;
+  exact = λ o. o .done refl;
+  accepted = back-answers;
+  back = back-restores;
+  again = again-restores;
+}
