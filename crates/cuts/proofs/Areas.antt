@@ -6,12 +6,11 @@ use native.Mathlib.Omega.{arith}
 use Rattle.nodes.specs.Depth.{depthOf}
 use Rattle.nodes.proofs.Depths.{At, at-left, at-right, at-root, depth-is}
 use Rattle.sums.specs.Rank.{rank}
+use Rattle.sums.proofs.Counts.{byNode, sum, rank-all}
 use Rattle.cuts.specs.Cuts.{Cut, Leaf, leafNumber}
-use Rattle.cuts.proofs.NodeSums.{sum}
-use Rattle.cuts.proofs.Places.{byNode, dec-cut}
+use Rattle.cuts.proofs.Places.{dec-cut}
 use Rattle.cuts.proofs.Leaves.{GoodBits}
-use Rattle.cuts.proofs.Numbering.{number-once}
-use Rattle.cuts.proofs.Ranks.{sum-count, number-root, number-left, number-right}
+use Rattle.cuts.proofs.Numbering.{number-once, number-root, number-left, number-right}
 use Rattle.cuts.proofs.Descent.{Reached, reached-root, reached-left, reached-right, reached-leaf, leaf-sum, bottom-uncut}
 
 -- h 0 + h 1 + .. , c of them
@@ -69,7 +68,7 @@ module _ (D : ℕ) (f : ℕ → ℕ) (G : GoodBits D f) (leaf : ℕ → ℕ) (L 
   unfolding total
   shares =
       let z = number-root D f in
-      let c = sum-count D f in
+      let c = rank-all D f in
       omega (
         arith,
         node-share 0 D 1 at-root (omega arith) (reached-root D f) (omega arith),

@@ -2,12 +2,13 @@
 use mathlib.Core.Path.{_≡_, refl, sym, ap, _∙_, subst}
 use mathlib.Core.Logic.{_≢_, _⊎_, inl, inr}
 use Prim.Native.Nat.{ℕ, zero, suc, _+_, _-_, _*_, _/_, _%_, _^_, _≤_, _<_}
-use native.Mathlib.Nat.{add-zero, zero-add, add-suc, pow-suc}
+use native.Mathlib.Nat.{add-zero, zero-add, pow-suc}
 use native.Mathlib.Decide.{ℕ-discrete}
 use native.Mathlib.Omega.{arith}
 use lib.Pow.{pow-pos}
 use Rattle.nodes.specs.Depth.{depthOf}
 use Rattle.nodes.proofs.Depths.{At, at-parent, at-ancestor, ancestor, depth-is}
+use Rattle.sums.proofs.Counts.{first-left}
 use Rattle.cuts.specs.Cuts.{Leaf}
 use Rattle.cuts.proofs.Covering.{Tree, cover}
 
@@ -28,29 +29,9 @@ CutBit D g n = cutAt g (D - depthOf n) n
 pub first-suc : (j n : ℕ) → first (suc j) n ≡ 2 * first j n
 first-suc j n = rw (pow-suc) (omega (arith))
 
--- the left child has the same first node below it
-pub first-left : (j n : ℕ) → first (suc j) n ≡ first j (2 * n)
-first-left j n = rw (pow-suc) (omega (arith))
-
--- the right child's lies past all below the left child
-pub first-right : (j n : ℕ) → first j (2 * n + 1) ≡ first j (2 * n) + 2 ^ j
-first-right j n = omega arith
-
-pub at-first : (j d n : ℕ) → At d n → At (d + j) (first j n)
-at-first zero d n a = subst (λ x. At x (first 0 n)) (sym (add-zero d)) (omega arith)
-at-first (suc j) d n a = subst (λ x. At x (first (suc j) n)) (sym (add-suc d j)) (omega (arith, first-suc j n, at-first j d n a))
-
 pub ancestor-first : (j n : ℕ) → ancestor j (first j n) ≡ n
 ancestor-first zero n = omega arith
 ancestor-first (suc j) n = omega (arith, ap (ancestor j) (first-left j n), ancestor-first j (2 * n))
-
--- different nodes have different bits
-pub bit-unique : (j i n m : ℕ) → first j (2 * n + 1) ≡ first i (2 * m + 1) → (j ≡ i) × (n ≡ m)
-bit-unique zero zero n m e = (refl, omega arith)
-bit-unique zero (suc i) n m e = absurd (omega (arith, first-suc i (2 * m + 1)))
-bit-unique (suc j) zero n m e = absurd (omega (arith, first-suc j (2 * n + 1)))
-bit-unique (suc j) (suc i) n m e =
-    let (p, q) = bit-unique j i n m (omega (arith, first-suc j (2 * n + 1), first-suc i (2 * m + 1))) in (ap suc p, q)
 
 -- every bit but the first is that of one node's right child
 pub bit-names : (D N : ℕ) → At D N → N ≢ 2 ^ D → (j : ℕ) × (n : ℕ) × (d : ℕ) × (d + suc j ≡ D) × At d n × (N ≡ first j (2 * n + 1))
@@ -101,7 +82,7 @@ module _ (D : ℕ) (g : ℕ → ℕ) where
         c = p (omega (arith, pow-pos d))
 
         go : g (first (suc j) (n / 2)) ≡ 1 → Dec (n % 2 ≡ 0) → g (first j n) ≡ 1
-        go ih (yes z) = subst (λ x. g x ≡ 1) (first-left j (n / 2) ∙ ap (first j) (omega arith)) ih
+        go ih (yes z) = subst (λ x. g x ≡ 1) (sym (first-left j (n / 2)) ∙ ap (first j) (omega arith)) ih
         go ih (no z) = subst (λ x. g (first j x) ≡ 1) (let h : 2 * (n / 2) + 1 ≡ n = omega arith in h) (cut-out (suc j) (at-parent a) (omega arith) c)
 
     -- a set bit is the first below each of its ancestors that is not cut
@@ -114,7 +95,7 @@ module _ (D : ℕ) (g : ℕ → ℕ) where
 
         go : (N ≡ first i (ancestor i N)) ⊎ CutBit D g (ancestor i N) → Dec (ancestor i N % 2 ≡ 0) → (N ≡ first (suc i) (ancestor i N / 2)) ⊎ CutBit D g (ancestor i N / 2)
         go (inr c) z = inr (up (ancestor i N) (omega (arith, b, pow-pos (D - suc i))) c)
-        go (inl e) (yes z) = inl (e ∙ ap (first i) (omega arith) ∙ sym (first-left i (ancestor i N / 2)))
+        go (inl e) (yes z) = inl (e ∙ ap (first i) (omega arith) ∙ first-left i (ancestor i N / 2))
         go (inl e) (no z) = inr (cut-in (suc i) (at-parent b) (omega arith) (subst (λ x. g x ≡ 1) (e ∙ ap (first i) (omega arith)) s))
 
     -- the bit of a leaf is set

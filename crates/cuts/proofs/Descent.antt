@@ -8,13 +8,13 @@ use native.Mathlib.Omega.{arith}
 use lib.Pow.{pow-pos}
 use Rattle.nodes.proofs.Depths.{At, at-left, at-right, at-root, depth-is}
 use Rattle.sums.specs.Rank.{rank}
+use Rattle.sums.proofs.Ranks.{Bits}
+use Rattle.sums.proofs.Counts.{byNode, sum, rank-all}
 use Rattle.cuts.specs.Cuts.{Cut, Leaf, leafNumber}
-use Rattle.cuts.proofs.NodeSums.{sum}
 use Rattle.cuts.proofs.NodeSums as by-node
-use Rattle.cuts.proofs.Places.{byNode, cut-depth}
+use Rattle.cuts.proofs.Places.{cut-depth}
 use Rattle.cuts.proofs.Leaves.{GoodBits, same-cuts, start-bit, root-bit, up-bit}
-use Rattle.cuts.proofs.Numbering.{number-lt, number-once}
-use Rattle.cuts.proofs.Ranks.{sum-count, number-root, number-left, number-right}
+use Rattle.cuts.proofs.Numbering.{number-lt, number-once, number-root, number-left, number-right}
 
 -- the leaf with i leaves left of it below n, which stands j levels above depth D
 unfoldable pub find : (ℕ → ℕ) → ℕ → ℕ → ℕ → ℕ
@@ -36,7 +36,7 @@ module _ (D : ℕ) (f : ℕ → ℕ) where
   reached-right n c h = subst (Cut D f) (let e : n ≡ (2 * n + 1) / 2 = omega arith in e) c
 
 module _ (D : ℕ) (f : ℕ → ℕ) (G : GoodBits D f) where
-  small-bit : (N : ℕ) → byNode D f N ≤ 1
+  small-bit : Bits (byNode D f)
   small-bit N = G .small (N - 2 ^ D)
 
   module _ (d j n : ℕ) (a : At d n) (e : d + j ≡ D) where
@@ -112,7 +112,7 @@ module _ (D : ℕ) (f : ℕ → ℕ) (G : GoodBits D f) where
   -- from node 1 it comes to the leaf of number i ..
   pub by-number : (i : ℕ) → i < rank f (2 ^ D) → Leaf (Cut D f) (find (byNode D f) D 1 i) × (leafNumber D f (find (byNode D f) D 1 i) ≡ i)
   by-number i h =
-      let (l, e) = find-is 0 D 1 i at-root (zero-add D) (reached-root D f) (omega (arith, sum-count D f)) in (l, omega (arith, number-root D f))
+      let (l, e) = find-is 0 D 1 i at-root (zero-add D) (reached-root D f) (omega (arith, rank-all D f)) in (l, omega (arith, number-root D f))
 
   -- .. and every leaf is found by its number
   pub by-leaf : (k : ℕ) → Leaf (Cut D f) k → find (byNode D f) D 1 (leafNumber D f k) ≡ k

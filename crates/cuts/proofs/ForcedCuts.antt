@@ -2,8 +2,8 @@
 -- that holds the first holds them all.
 use mathlib.Core.Path.{_≡_, refl, sym, ap, _∙_, subst}
 use mathlib.Core.Bool.{true, decide, decide-iff}
-use mathlib.Core.Logic.{_≢_, _⊎_, inl, inr, ⊎-elim, ⊎-map, _↔_, Iff·symm}
-use mathlib.Core.List.{List, [], _∷_, List·Memᴰ, List·Memᴰ·head, List·Memᴰ·tail, List·Memᴰ·not-nil, List·Memᴰ·cases-cons}
+use mathlib.Core.Logic.{_≢_, _⊎_, inl, inr, ⊎-elim, _↔_, Iff·symm}
+use mathlib.Core.List.{List, [], _∷_, List·Memᴰ, List·Memᴰ·head, List·Memᴰ·tail}
 use Prim.Native.Nat.{ℕ, zero, suc, _*_, _/_, _≤_}
 use native.Mathlib.Decide.{ℕ-discrete}
 use native.Mathlib.Omega.{arith}
@@ -134,11 +134,6 @@ across-mem zero xs z h = absurd (z refl)
 across-mem (suc e) xs z (inl r) = List·Memᴰ·head r
 across-mem (suc e) xs z (inr r) = List·Memᴰ·tail r
 
-across-cases : (e : ℕ) (xs : List ℕ) {n : ℕ} → List·Memᴰ n (across e xs) → (e ≢ 0) × ((n ≡ e) ⊎ List·Memᴰ n xs)
-unfolding across
-across-cases zero xs h = absurd (List·Memᴰ·not-nil h)
-across-cases (suc e) xs h = (omega arith, List·Memᴰ·cases-cons h)
-
 pub few : (d k : ℕ) → length (forcedList d k) ≤ 2 * d
 unfolding forcedList
 few zero k = omega arith
@@ -150,12 +145,6 @@ listed zero k n h = absurd h
 listed (suc d) k n (inl r) = List·Memᴰ·head r
 listed (suc d) k n (inr (e, inl r)) = List·Memᴰ·tail (across-mem (edge k) _ e (inl r))
 listed (suc d) k n (inr (e, inr r)) = List·Memᴰ·tail (across-mem (edge k) _ e (inr (listed d (edge k / 2) n r)))
-
-pub unlisted : (d k n : ℕ) → List·Memᴰ n (forcedList d k) → Forced d k n
-unfolding forcedList
-unlisted zero k n h = absurd (List·Memᴰ·not-nil h)
-unlisted (suc d) k n h =
-    ⊎-elim inl (λ m. let (z, c) = across-cases (edge k) _ m in inr (z, ⊎-map (λ r. r) (unlisted d (edge k / 2) n) c)) (List·Memᴰ·cases-cons h)
 
 -- ---- decided
 

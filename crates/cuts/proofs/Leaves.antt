@@ -1,20 +1,22 @@
 -- The leaves of good leaf bits: they cover the panel once, and the set bits are the first bits below them.
 use mathlib.Core.Path.{_≡_, refl, sym, ap, _∙_, subst}
 use mathlib.Core.Logic.{_↔_}
-use Prim.Native.Nat.{ℕ, zero, suc, _+_, _-_, _*_, _/_, _^_, _≤_, _<_}
+use Prim.Native.Nat.{ℕ, _+_, _-_, _*_, _/_, _^_, _≤_, _<_}
 use native.Mathlib.Omega.{arith}
 use Rattle.nodes.specs.Depth.{depthOf}
 use Rattle.nodes.proofs.Depths.{At, ancestor, at-from, at-depth, at-ancestor, depth-is, depth-half, below-depth}
+use Rattle.sums.proofs.Ranks.{Bits}
+use Rattle.sums.proofs.Counts.{byNode, at-first}
 use Rattle.cuts.specs.Cuts.{Cut, GoodCuts, Leaf, CoverOnce, placeOf}
 use Rattle.cuts.proofs.Covering.{Tree, ancestor-is, cover}
-use Rattle.cuts.proofs.CutBits.{first, CutBit, at-first}
+use Rattle.cuts.proofs.CutBits.{first, CutBit}
 use Rattle.cuts.proofs.CutBits as by-node
-use Rattle.cuts.proofs.Places.{byNode, cut-depth, cut-bit, dec-cut}
+use Rattle.cuts.proofs.Places.{cut-depth, cut-bit, dec-cut}
 
 -- the leaf bits of a good panel of depth D
 pub record GoodBits (D : ℕ) (f : ℕ → ℕ) : Type 0 where
   pub deep : D ≤ 32
-  pub small : (p : ℕ) → f p ≤ 1
+  pub small : Bits f
   pub start : f 0 ≡ 1
   pub cuts : GoodCuts (Cut D f)
 
@@ -81,7 +83,7 @@ module _ (D : ℕ) (f : ℕ → ℕ) (G : GoodBits D f) where
   levels-of k l = omega (arith, leaf-depth k l)
 
   first-at : (k : ℕ) → Leaf (Cut D f) k → At D (first (D - depthOf k) k)
-  first-at k l = subst (λ x. At x (first (D - depthOf k) k)) (levels-of k l) (at-first (D - depthOf k) (depthOf k) k (leaf-at k l))
+  first-at k l = at-first D (depthOf k) (D - depthOf k) k (leaf-at k l) (levels-of k l)
 
   pub leaf-place : (k : ℕ) → Leaf (Cut D f) k → placeOf D k < 2 ^ D
   leaf-place k l = omega (arith, first-at k l)
@@ -109,24 +111,3 @@ module _ (D : ℕ) (f : ℕ → ℕ) (G : GoodBits D f) where
   pub place-once : (k m : ℕ) → Leaf (Cut D f) k → Leaf (Cut D f) m → placeOf D k ≡ placeOf D m → k ≡ m
   place-once k m x y e =
       let (n, l, q, u) = set-leaf (placeOf D m) (leaf-place m y) (leaf-set m y) in u k x e ∙ sym (u m y refl)
-
--- ---- below a leaf there is no other
-
-module _ (P : ℕ → Type 0) (G : GoodCuts P) where
-  -- the ancestors of a cut node are cut
-  pub cut-above : (j n : ℕ) → 1 ≤ n / 2 ^ j → P n → P (n / 2 ^ j)
-  cut-above j n h p = subst P (ancestor-is j n) (go j (omega (arith, ancestor-is j n)))
-    where
-      go : (j : ℕ) → 1 ≤ ancestor j n → P (ancestor j n)
-      go zero h = p
-      go (suc j) h = G .up (ancestor j n) (omega arith) (go j (omega arith))
-
-  pub leaf-alone : (j k : ℕ) → 1 ≤ j → Leaf P (k / 2 ^ j) → Leaf P k → ⊥
-  leaf-alone zero k h l m = omega arith
-  leaf-alone (suc j) k h l m =
-      let e : k / 2 / 2 ^ j ≡ k / 2 ^ suc j = sym (ancestor-is j (k / 2)) ∙ shift j k ∙ ancestor-is (suc j) k in
-      l .uncut (subst P e (cut-above j (k / 2) (omega (arith, l .low)) (m .parent)))
-    where
-      shift : (j k : ℕ) → ancestor j (k / 2) ≡ ancestor (suc j) k
-      shift zero k = refl
-      shift (suc j) k = ap (λ x. x / 2) (shift j k)

@@ -4,7 +4,6 @@ pub mod NodeSums
 pub mod Places
 pub mod Following
 pub mod Leaves
-pub mod Ranks
 pub mod Numbering
 pub mod Descent
 pub mod ForcedCuts

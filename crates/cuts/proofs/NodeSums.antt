@@ -1,32 +1,22 @@
 -- A node's sum counts the leaf bits set below it: at least 2 where the node is cut, 1 where it is a leaf.
-use mathlib.Core.Path.{_≡_, ap, _∙_, subst}
+use mathlib.Core.Path.{_≡_, ap, subst}
 use mathlib.Core.Logic.{_↔_}
 use Prim.Native.Nat.{ℕ, zero, suc, _+_, _-_, _*_, _/_, _^_, _≤_}
 use native.Mathlib.Decide.{ℕ-discrete}
 use native.Mathlib.Omega.{arith}
 use lib.Pow.{pow-pos}
 use Rattle.nodes.proofs.Depths.{At}
-use Rattle.cuts.specs.Cuts.{Leaf}
-use Rattle.cuts.proofs.CutBits.{first, CutBit, first-left, cut-in, cut-out, dec-cut-bit, first-set, leaf-set}
+use Rattle.sums.proofs.Ranks.{Bits}
+use Rattle.sums.proofs.Counts.{sum, first-left}
+use Rattle.cuts.proofs.CutBits.{first, CutBit, cut-in, cut-out, dec-cut-bit, first-set}
 
--- how many leaf bits are set below n, which stands j levels above depth D
-unfoldable pub sum : (ℕ → ℕ) → ℕ → ℕ → ℕ
-sum g zero n = g n
-sum g (suc j) n = sum g j (2 * n) + sum g j (2 * n + 1)
-
--- a sum counts at most all bits below its node ..
-pub sum-le : (g : ℕ → ℕ) → ((N : ℕ) → g N ≤ 1) → (j n : ℕ) → sum g j n ≤ 2 ^ j
-unfolding sum
-sum-le g s zero n = s n
-sum-le g s (suc j) n = omega (arith, sum-le g s j (2 * n), sum-le g s j (2 * n + 1))
-
--- .. and at least the first
+-- a sum counts at least the first bit below its node
 pub first-sum : (g : ℕ → ℕ) (j n : ℕ) → g (first j n) ≤ sum g j n
 unfolding sum
 first-sum g zero n = omega (arith, ap g (let e : first 0 n ≡ n = omega arith in e))
 first-sum g (suc j) n = omega (arith, ap g (first-left j n), first-sum g j (2 * n))
 
-module _ (D : ℕ) (g : ℕ → ℕ) (small : (N : ℕ) → g N ≤ 1) (up : (n : ℕ) → 2 ≤ n → CutBit D g n → CutBit D g (n / 2)) where
+module _ (D : ℕ) (g : ℕ → ℕ) (small : Bits g) (up : (n : ℕ) → 2 ≤ n → CutBit D g n → CutBit D g (n / 2)) where
   -- below a node that is not cut only the first bit can be set
   pub uncut-sum : (d j n : ℕ) → At d n → d + j ≡ D → (CutBit D g n → ⊥) → sum g j n ≡ g (first j n)
   unfolding sum
@@ -45,10 +35,6 @@ module _ (D : ℕ) (g : ℕ → ℕ) (small : (N : ℕ) → g N ≤ 1) (up : (n 
       odd (no c) = omega (arith, small (first j (2 * n + 1)))
 
   module _ (start : g (2 ^ D) ≡ 1) (root : CutBit D g 1) where
-    -- a leaf's sum is 1
-    pub leaf-sum : (d j n : ℕ) → At d n → d + j ≡ D → Leaf (CutBit D g) n → sum g j n ≡ 1
-    leaf-sum d j n a e l = uncut-sum d j n a e (l .uncut) ∙ leaf-set D g start root up d j n a e l
-
     -- below a node whose parent is cut some bit is set
     pub pos-sum : (d j n : ℕ) → At d n → d + j ≡ D → (2 ≤ n → CutBit D g (n / 2)) → 1 ≤ sum g j n
     pos-sum d j n a e c = omega (arith, first-sum g j n, first-set D g start root up d j n a e c)
@@ -74,7 +60,3 @@ module _ (D : ℕ) (g : ℕ → ℕ) (small : (N : ℕ) → g N ≤ 1) (up : (n 
         from : 2 ≤ sum g j n → Dec (CutBit D g n) → CutBit D g n
         from h (yes c) = c
         from h (no c) = absurd (omega (arith, uncut-sum d j n a e c, small (first j n)))
-
-    -- of the nodes whose parent is cut, the leaves are those whose sum is 1
-    pub leaf-iff : (d j n : ℕ) → At d n → d + j ≡ D → 2 ≤ n → CutBit D g (n / 2) → (Leaf (CutBit D g) n ↔ (sum g j n ≡ 1))
-    leaf-iff d j n a e h c = (leaf-sum d j n a e, λ s. record { low = h; uncut = λ q. omega (arith, cut-iff d j n a e .0 q); parent = c })

@@ -1,14 +1,15 @@
 -- One leaf bit changed changes one cut: each place but 0 names one node, and different places different nodes.
-use mathlib.Core.Path.{_≡_, refl, sym, ap, _∙_}
+use mathlib.Core.Path.{_≡_, refl, sym, ap, _∙_, subst}
 use mathlib.Core.Logic.{_≢_, _⊎_, inl, inr, ⊎-elim, _↔_}
 use Prim.Native.Nat.{ℕ, suc, _+_, _-_, _*_, _^_, _≤_, _<_}
 use native.Mathlib.Decide.{ℕ-discrete}
 use native.Mathlib.Omega.{arith}
 use Rattle.nodes.specs.Depth.{depthOf}
 use Rattle.nodes.proofs.Depths.{at-depth, depth-right}
+use Rattle.sums.proofs.Ranks.{Bits}
 use Rattle.cuts.specs.Cuts.{Cut, named, placeOf}
 use Rattle.cuts.specs.Steps.{CutPlace}
-use Rattle.cuts.proofs.Places.{cutPlace, cut-place, cut-low, cut-depth, names-named, named-once}
+use Rattle.cuts.proofs.Places.{cutPlace, cut-place, cut-low, cut-depth, cut-set, named-once}
 use Rattle.cuts.proofs.Following.{place-cut}
 
 -- g is f with the bit at place p set to v
@@ -38,7 +39,7 @@ module _ {D : ℕ} (l : D ≤ 32) {n p : ℕ} (at : CutPlace D n p) {f g : ℕ �
   add-iff b m = go (ℕ-discrete m n)
     where
       go : Dec (m ≡ n) → Cut D g m ↔ (Cut D f m ⊎ (m ≡ n))
-      go (yes w) = (λ c. inr w, λ c. record { place = p; low = at .low; high = at .high; set = b .here; names = at .names ∙ sym w })
+      go (yes w) = (λ c. inr w, λ c. subst (Cut D g) (sym w) (cut-set D g l at .1 (b .here)))
       go (no w) = (λ c. inl (cut-other b m w .0 c), ⊎-elim (cut-other b m w .1) (λ r. absurd (w r)))
 
   -- one cut less
@@ -46,17 +47,13 @@ module _ {D : ℕ} (l : D ≤ 32) {n p : ℕ} (at : CutPlace D n p) {f g : ℕ �
   drop-iff b m = go (ℕ-discrete m n)
     where
       own : m ≡ n → Cut D g m → ⊥
-      own w c = omega (arith, c .set, b .here, ap g (named-once D (c .place) p l (c .low) (c .high) (at .low) (at .high) (c .names ∙ w ∙ sym (at .names))))
+      own w c = omega (arith, b .here, cut-set D g l at .0 (subst (Cut D g) w c))
 
       go : Dec (m ≡ n) → Cut D g m ↔ (Cut D f m × (m ≢ n))
       go (yes w) = (λ c. absurd (own w c), λ c. absurd (c .1 w))
       go (no w) = (λ c. (cut-other b m w .0 c, w), λ c. cut-other b m w .1 (c .0))
 
--- ---- a bit and the node that it names
-
--- where the node that a place names is cut, its bit is set
-pub named-set : (D : ℕ) → D ≤ 32 → (f : ℕ → ℕ) (p : ℕ) → 0 < p → p < 2 ^ D → Cut D f (named D p) → f p ≡ 1
-named-set D l f p w h c = ap f (named-once D p (c .place) l w h (c .low) (c .high) (sym (c .names))) ∙ c .set
+-- ---- a place and the node that it names
 
 -- a place is the first below the right child of the node that it names
 pub named-place : (D : ℕ) → D ≤ 32 → (p : ℕ) → 0 < p → p < 2 ^ D → p ≡ placeOf D (2 * named D p + 1)
@@ -67,19 +64,20 @@ named-place D l p w h =
     own : (n : ℕ) → 1 ≤ n → depthOf n < D → named D p ≡ n → p ≡ placeOf D (2 * n + 1)
     own n i d e =
         let j : ℕ = D - suc (depthOf n) in
-        let (low, high, m) = cut-place D (depthOf n) j n (at-depth i) (omega arith) in
-        named-once D p (cutPlace D j n) l w h low high (e ∙ sym (names-named D (cutPlace D j n) j n l m))
+        let c = cut-place D (depthOf n) j n l (at-depth i) (omega arith) in
+        named-once D p (cutPlace D j n) l w h (c .low) (c .high) (e ∙ sym (c .names))
         ∙ ap (λ (x : ℕ). (2 * n + 1) * 2 ^ (D - x) - 2 ^ D) (sym (depth-right n i))
 
 -- ---- bits are settled by their cuts
 
-pub bits-same : (D : ℕ) → D ≤ 32 → (f g : ℕ → ℕ) → ((p : ℕ) → f p ≤ 1) → ((p : ℕ) → g p ≤ 1) → f 0 ≡ g 0
+pub bits-same : (D : ℕ) → D ≤ 32 → (f g : ℕ → ℕ) → Bits f → Bits g → f 0 ≡ g 0
     → ((n : ℕ) → 1 ≤ n → (Cut D f n ↔ Cut D g n)) → (p : ℕ) → p < 2 ^ D → f p ≡ g p
 bits-same D l f g sf sg z e p h = go (ℕ-discrete p 0)
   where
     other : (f g : ℕ → ℕ) → ((n : ℕ) → 1 ≤ n → Cut D f n → Cut D g n) → 0 < p → f p ≡ 1 → g p ≡ 1
     other f g e w s =
-        let c = place-cut D f w h s in named-set D l g p w h (e (named D p) (cut-low D f l (named D p) c) c)
+        let c = place-cut D f w h s in
+        cut-set D g l (record { low = w; high = h; names = refl }) .0 (e (named D p) (cut-low D f l (named D p) c) c)
 
     same : 0 < p → Dec (f p ≡ 1) → Dec (g p ≡ 1) → f p ≡ g p
     same w (yes a) b = a ∙ sym (other f g (λ n q. e n q .0) w a)

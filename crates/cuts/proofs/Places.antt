@@ -1,5 +1,5 @@
 -- The trailing zeros of a place are the levels from depth D up to the node whose first bit it is; but for place 0 that node is a right child.
-use mathlib.Core.Path.{_≡_, sym, ap, ap₂, _∙_, subst}
+use mathlib.Core.Path.{_≡_, sym, ap, ap₂, _∙_}
 use mathlib.Core.Logic.{_↔_}
 use Prim.Native.Nat.{ℕ, zero, suc, _+_, _-_, _*_, _/_, _%_, _^_, _≤_, _<_}
 use native.Mathlib.Nat.{mul-div-left, add-mul}
@@ -9,12 +9,10 @@ use lib.Pow.{pow-pos, pow-mono, pow-add}
 use lib.Count.{trailingZeros, under}
 use Rattle.nodes.specs.Depth.{depthOf}
 use Rattle.nodes.proofs.Depths.{At, at-left, at-right, at-depth, depth-is}
+use Rattle.sums.proofs.Counts.{byNode, at-first}
 use Rattle.cuts.specs.Cuts.{named, Cut}
-use Rattle.cuts.proofs.CutBits.{first, CutBit, first-suc, first-right, at-first, bit-names, dec-cut-bit, cut-in, cut-out, cut-bit-depth}
-
--- the bit of the depth-D node N, at place N - 2 ^ D
-abbrev pub byNode : ℕ → (ℕ → ℕ) → ℕ → ℕ
-byNode D f N = f (N - 2 ^ D)
+use Rattle.cuts.specs.Steps.{CutPlace}
+use Rattle.cuts.proofs.CutBits.{first, CutBit, first-suc, bit-names, dec-cut-bit, cut-in, cut-out, cut-bit-depth}
 
 -- ---- the node that a place names
 
@@ -80,21 +78,13 @@ named-once D p q l a b c d e =
 abbrev pub cutPlace : ℕ → ℕ → ℕ → ℕ
 cutPlace D j n = (2 * n + 1) * 2 ^ j - 2 ^ D
 
-pub cut-place : (D d j n : ℕ) → At d n → d + suc j ≡ D → (0 < cutPlace D j n) × (cutPlace D j n < 2 ^ D) × Names D (cutPlace D j n) j n
-cut-place D d j n a e =
-    let b : At D (first j (2 * n + 1)) = below (2 * n + 1) (at-right a) in
-    (omega (arith, below (2 * n) (at-left a), first-right j n, pow-pos j), omega (arith, b), record { depth = d; levels = e; at = a; place = omega (arith, b) })
-  where
-    below : (m : ℕ) → At (suc d) m → At D (first j m)
-    below m c = subst (λ x. At x (first j m)) (let r : suc d + j ≡ D = omega arith in r) (at-first j (suc d) m c)
-
--- every node above depth D is named by exactly one place
-pub place-names : (D n : ℕ) → D ≤ 32 → 1 ≤ n → depthOf n < D
-    → (p : ℕ) × (0 < p) × (p < 2 ^ D) × (named D p ≡ n) × ((q : ℕ) → 0 < q → q < 2 ^ D → named D q ≡ n → q ≡ p)
-place-names D n l h d =
-    let (a, b, m) = cut-place D (depthOf n) (D - suc (depthOf n)) n (at-depth h) (omega arith) in
-    let e = names-named D (cutPlace D (D - suc (depthOf n)) n) (D - suc (depthOf n)) n l m in
-    (cutPlace D (D - suc (depthOf n)) n, a, b, e, λ q c f z. named-once D q (cutPlace D (D - suc (depthOf n)) n) l c f a b (z ∙ sym e))
+pub cut-place : (D d j n : ℕ) → D ≤ 32 → At d n → d + suc j ≡ D → CutPlace D n (cutPlace D j n)
+cut-place D d j n l a e =
+    let b : At D (first j (2 * n + 1)) = at-first D (suc d) j (2 * n + 1) (at-right a) (omega arith) in record {
+      low = omega (arith, at-first D (suc d) j (2 * n) (at-left a) (omega arith), pow-pos j);
+      high = omega (arith, b);
+      names = names-named D (cutPlace D j n) j n l (record { depth = d; levels = e; at = a; place = omega (arith, b) });
+    }
 
 -- ---- cuts
 
@@ -113,12 +103,12 @@ module _ (D : ℕ) (f : ℕ → ℕ) (l : D ≤ 32) where
   pub cut-range : (n : ℕ) → Cut D f n → n < 2 ^ D
   cut-range n c = omega (arith, at-depth {n = n} (cut-low n c), pow-mono (cut-depth n c))
 
-  -- a node suc j levels above depth D is cut where the bit of its right child is set
-  pub cut-at : (d j n : ℕ) → At d n → d + suc j ≡ D → (Cut D f n ↔ (f ((2 * n + 1) * 2 ^ j - 2 ^ D) ≡ 1))
-  cut-at d j n a e =
-      let (low, high, m) = cut-place D d j n a e in
-      let q : named D (cutPlace D j n) ≡ n = names-named D (cutPlace D j n) j n l m in
-      (λ c. ap f (named-once D (cutPlace D j n) (c .place) l low high (c .low) (c .high) (q ∙ sym (c .names))) ∙ c .set, λ s. record { place = cutPlace D j n; low = low; high = high; set = s; names = q })
+  -- a node is cut exactly where the bit that names it is set
+  pub cut-set : {n p : ℕ} → CutPlace D n p → (Cut D f n ↔ (f p ≡ 1))
+  cut-set {n} {p} at = (
+    λ c. ap f (named-once D p (c .place) l (at .low) (at .high) (c .low) (c .high) (at .names ∙ sym (c .names))) ∙ c .set,
+    λ s. record { place = p; low = at .low; high = at .high; set = s; names = at .names },
+  )
 
   pub cut-bit : (n : ℕ) → 1 ≤ n → (Cut D f n ↔ CutBit D (byNode D f) n)
   cut-bit n h = (λ c. to (cut-depth n c) c, λ c. from (cut-bit-depth D (byNode D f) n c) c)
@@ -126,11 +116,14 @@ module _ (D : ℕ) (f : ℕ → ℕ) (l : D ≤ 32) where
       a : At (depthOf n) n
       a = at-depth h
 
+      at : depthOf n < D → CutPlace D n (cutPlace D (D - suc (depthOf n)) n)
+      at d = cut-place D (depthOf n) (D - suc (depthOf n)) n l a (omega arith)
+
       to : depthOf n < D → Cut D f n → CutBit D (byNode D f) n
-      to d c = cut-in D (byNode D f) (suc (D - suc (depthOf n))) a (omega arith) (cut-at (depthOf n) (D - suc (depthOf n)) n a (omega arith) .0 c)
+      to d c = cut-in D (byNode D f) (suc (D - suc (depthOf n))) a (omega arith) (cut-set (at d) .0 c)
 
       from : depthOf n < D → CutBit D (byNode D f) n → Cut D f n
-      from d c = cut-at (depthOf n) (D - suc (depthOf n)) n a (omega arith) .1 (cut-out D (byNode D f) (suc (D - suc (depthOf n))) a (omega arith) c)
+      from d c = cut-set (at d) .1 (cut-out D (byNode D f) (suc (D - suc (depthOf n))) a (omega arith) c)
 
   pub dec-cut : (n : ℕ) → Dec (Cut D f n)
   dec-cut n = go (decLt 0 n)

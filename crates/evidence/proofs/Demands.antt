@@ -24,11 +24,12 @@ use Rattle.nodes.proofs.Areas.{area-is}
 use Rattle.nodes.proofs.Outcomes.{neighbours-one, corners-one}
 use Rattle.sums.specs.Rank.{rank}
 use Rattle.sums.specs.Words.{word, leafBit}
+use Rattle.sums.proofs.Counts.{word-all}
 use Rattle.cuts.specs.Cuts.{CoverOnce}
 use Rattle.cuts.proofs.Areas.{total}
 use Rattle.panel.specs.Panels.{Fits, deepOf, CutOf, Good, LeafOf, leafCount}
 use Rattle.panel.specs.Calls.{panelRows, leafRows, Judged, Count, LeafBits, LeafAt, NumberOf, Open, SplitAt, Split, Together, MergeAt, Merge}
-use Rattle.panel.proofs.GoodPanels.{leaf-in-range, word-count, leaf-areas}
+use Rattle.panel.proofs.GoodPanels.{leaf-in-range, leaf-areas}
 use Rattle.panel.proofs.SameBytes.{bytes-same}
 use Rattle.panel.proofs.Once.{judge-one, count-one, leaf-bits-one, leaf-at-one, number-of-one, open-one, split-one, merge-one}
 use Rattle.requests.specs.Requests.{Fine, Called, Step, Run}
@@ -161,7 +162,7 @@ panel-read s G = record {
   names = numbers-name s G;
   back = number-of-leaf-at s;
   forth = leaf-at-number-of s;
-  counts = λ c o. (o .done refl, o .done refl ∙ word-count (deepOf s) s (G .right .sums));
+  counts = λ c o. (o .done refl, o .done refl ∙ word-all (deepOf s) s (G .right .sums));
   same = λ t T e. bytes-same G T (G .fits .long ∙ ap (λ (D : ℕ). 2 ^ (D - 1)) e ∙ sym (T .fits .long));
   areas = λ leaf corners L.
       total-same (λ i. twiceArea (corners i)) (λ i. 2 ^ (17 - depthOf (leaf i))) (leafCount s)

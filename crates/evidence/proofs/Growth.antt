@@ -11,14 +11,16 @@ use Rattle.nodes.proofs.Depths.{at-depth}
 use Rattle.sums.specs.Rank.{rank}
 use Rattle.sums.specs.Words.{leafBit}
 use Rattle.sums.proofs.Ranks.{rank-ext}
+use Rattle.sums.proofs.Counts.{word-all}
 use Rattle.cuts.specs.Cuts.{Cut, named, Leaf, placeOf}
 use Rattle.panel.specs.Panels.{deepOf, CutOf, Good, LeafOf, leafCount}
 use Rattle.panel.specs.Calls.{SplitAt}
+use Rattle.cuts.proofs.Places.{cut-set}
 use Rattle.cuts.proofs.Leaves.{GoodBits}
-use Rattle.panel.proofs.GoodPanels.{good-bits, word-count}
+use Rattle.panel.proofs.GoodPanels.{good-bits}
 use Rattle.panel.proofs.SameBytes.{deep-same, cut-of, dec-cuts}
 use Rattle.cuts.proofs.Following.{place-cut}
-use Rattle.cuts.proofs.OneBit.{named-place, named-set}
+use Rattle.cuts.proofs.OneBit.{named-place}
 use Rattle.cuts.proofs.ForcedCuts.{Added, first-added, forcedList, few, listed, smallest-iff-added}
 
 -- ---- counts when bits change
@@ -89,7 +91,7 @@ module _ (D : ℕ) (f g : ℕ → ℕ) (F : GoodBits D f) (H : GoodBits D g) (k 
     where
       go : Dec (p ≡ 0) → g p ≡ 1
       go (yes z) = ap g z ∙ H .start
-      go (no z) = named-set D (H .deep) g p (omega arith) h (e (named D p) .1 (inl (place-cut D f (omega arith) h s)))
+      go (no z) = cut-set D g (H .deep) (record { low = omega arith; high = h; names = refl }) .0 (e (named D p) .1 (inl (place-cut D f (omega arith) h s)))
 
   grows : (p : ℕ) → p < 2 ^ D → f p ≤ g p
   grows p h = go (ℕ-discrete (f p) 1)
@@ -103,7 +105,7 @@ module _ (D : ℕ) (f g : ℕ → ℕ) (F : GoodBits D f) (H : GoodBits D g) (k 
   new p h = go (ℕ-discrete p 0) (ℕ-discrete (g p) 1) (ℕ-discrete (f p) 1)
     where
       forced : 0 < p → (f p ≡ 1 → ⊥) → Added (Cut D f) (depthOf k) k (named D p) → List·Memᴰ p (map (λ n. placeOf D (2 * n + 1)) (forcedList (depthOf k) k))
-      forced w s (inl c) = absurd (s (named-set D (F .deep) f p w h c))
+      forced w s (inl c) = absurd (s (cut-set D f (F .deep) (record { low = w; high = h; names = refl }) .0 c))
       forced w s (inr c) =
           subst (λ x. List·Memᴰ x (map (λ n. placeOf D (2 * n + 1)) (forcedList (depthOf k) k))) (sym (named-place D (F .deep) p w h))
           (Memᴰ·map (λ n. placeOf D (2 * n + 1)) (listed (depthOf k) k (named D p) c))
@@ -155,10 +157,10 @@ split-grows {s} {t} G {k} l a =
     after = subst (λ D. GoodBits D (leafBit D t)) e (good-bits t (a .good))
 
     cs : leafCount s ≡ rank f (2 ^ deepOf s)
-    cs = word-count (deepOf s) s (G .right .sums)
+    cs = word-all (deepOf s) s (G .right .sums)
 
     ct : leafCount t ≡ rank g (2 ^ deepOf s)
-    ct = word-count (deepOf t) t (a .good .right .sums) ∙ ap (λ D. rank (leafBit D t) (2 ^ D)) e
+    ct = word-all (deepOf t) t (a .good .right .sums) ∙ ap (λ D. rank (leafBit D t) (2 ^ D)) e
 
     cuts : (n : ℕ) → Cut (deepOf s) g n ↔ Added (CutOf s) (depthOf k) k n
     cuts n =

@@ -18,8 +18,8 @@ use Rattle.sums.specs.Words.{word, leafBit}
 use Rattle.sums.specs.Sums.{SumsRight, Right}
 use Rattle.cuts.specs.Cuts.{Cut, GoodCuts, Leaf}
 use Rattle.panel.specs.Panels.{Fits, deepOf, RightLength, CutOf, Good}
-use Rattle.cuts.proofs.Places.{cutPlace, cut-low, cut-depth, cut-range}
-use Rattle.panel.proofs.Naming.{placed, cut-set}
+use Rattle.cuts.proofs.Places.{cutPlace, cut-low, cut-depth, cut-range, cut-set}
+use Rattle.panel.proofs.Naming.{placed}
 use Rattle.cuts.proofs.ForcedCuts.{Forced}
 use Rattle.evidence.proofs.Saying.{says-same, says-le, says-lt, imply, says-iff, says-and, says-or, says-imply, says-not, _and_, upTo, shows-all, Decided}
 
@@ -42,7 +42,7 @@ module _ (D : ℕ) (f : ℕ → ℕ) (l : D ≤ 17) where
   }
     where
       at : (n : ℕ) → 1 ≤ n → depthOf n < D → Cut D f n ↔ (f (bitOf D n) ≡ 1)
-      at n low deep = cut-set D f l (placed D n (D - 1 - depthOf n) l low (omega arith) .found)
+      at n low deep = cut-set D f (omega arith) (placed D n (D - 1 - depthOf n) l low (omega arith) .found)
 
       from : (n : ℕ) → Cut D f n → ((1 ≤ n) × (depthOf n < D)) × (f (bitOf D n) ≡ 1)
       from n c =

@@ -1,6 +1,6 @@
 -- The part told by numbers is the one that `leaf_bits` gives: a quarter of the panel's bytes, behind three times as many.
 use mathlib.Core.Path.{_≡_, sym, ap, _∙_, subst}
-use mathlib.Core.List.{List}
+use mathlib.Core.List.{List, []}
 use Prim.Native.Nat.{ℕ, _-_, _*_, _^_, _≤_}
 use native.Mathlib.Decide.{ℕ-discrete}
 use native.Mathlib.Omega.{arith}
@@ -11,7 +11,7 @@ use Rattle.sums.proofs.Rooms.{bounds}
 use Rattle.panel.specs.Panels.{deepOf, RightLength, leafPart}
 use Rattle.panel.specs.Calls.{Judged, LeafBits}
 use Rattle.panel.proofs.Lengths.{fits-room, fits-bits}
-use Rattle.panel.proofs.Rows.{good-if}
+use Rattle.panel.proofs.LeafRows.{good-past}
 use Rattle.exports.specs.Parts.{Part, LeafBytes}
 
 -- the part is a quarter of the panel
@@ -29,7 +29,7 @@ quarter s f =
     }
 
 fine : (s : List ℕ) (n : ℕ) → n ≡ 0 → Judged s n → RightLength s
-fine s n z a = good-if (subst (Judged s) z a) .fits
+fine s n z a = good-past [] (subst (Judged s) z a) .0 .fits
 
 -- three times the length of a part is a number of the machine
 pub part-short : (s : List ℕ) (n : ℕ) (t : List ℕ) → LeafBits s n t → length t ≤ 16384

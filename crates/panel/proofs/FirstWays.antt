@@ -12,7 +12,8 @@ use Rattle.nodes.proofs.Depths.{At, at-below, at-depth, depth-le}
 use Rattle.panel.specs.declared.descending.Aim.the-variants.{Below}
 use Rattle.panel.specs.Panels.{deepOf, Good, InRange, LeafOf}
 use Rattle.panel.specs.Descents.{Askable, Stopped, OnFirstWay, Ranged}
-use Rattle.cuts.proofs.CutBits.{first, at-first, ancestor-first}
+use Rattle.sums.proofs.Counts.{at-first}
+use Rattle.cuts.proofs.CutBits.{ancestor-first}
 use Rattle.cuts.proofs.Covering.{ancestor-is}
 use Rattle.panel.proofs.GoodPanels.{covers}
 
@@ -26,9 +27,7 @@ module _ (s : List ℕ) (G : Good s) (k : ℕ) (R : InRange s k) where
 
   node-at : At (deepOf s) node
   unfolding node
-  node-at =
-      subst (λ x. At x (first (deepOf s - depthOf k) k)) (let e : depthOf k + (deepOf s - depthOf k) ≡ deepOf s = omega (arith, deep) in e)
-      (at-first (deepOf s - depthOf k) (depthOf k) k (at-depth (omega (arith, R .low))))
+  node-at = at-first (deepOf s) (depthOf k) (deepOf s - depthOf k) k (at-depth (omega (arith, R .low))) (omega (arith, deep))
 
   -- a leaf on the way there is k, where k is a leaf
   own : (m : ℕ) → LeafOf s m → node / 2 ^ (deepOf s - depthOf m) ≡ m → LeafOf s k → m ≡ k

@@ -21,18 +21,16 @@ use Rattle.panel.specs.Panels.{Fits, deepOf}
 use Rattle.panel.specs.Calls.{Fresh}
 use Rattle.cuts.specs.Steps.{CutPlace}
 use Rattle.panel.specs.Opening.{Cleared}
-use Rattle.cuts.proofs.Places.{cutPlace, cut-place, names-named}
+use Rattle.cuts.proofs.Places.{cutPlace, cut-place, cut-set}
 use Rattle.panel.proofs.Lengths.{fits-deep, fits-right, fits-room}
-use Rattle.panel.proofs.Naming.{cut-set}
 
 -- ---- the only cut
 
 -- leaf bit 2 ^ (D - 1) names node 1
 pub root-place : (D : ℕ) → 1 ≤ D → D ≤ 17 → CutPlace D 1 (2 ^ (D - 1))
 root-place D l h =
-    let (low, high, m) = cut-place D 0 (D - 1) 1 at-root (omega arith) in
     let e : cutPlace D (D - 1) 1 ≡ 2 ^ (D - 1) = omega (arith, pow-next (D - 1), ap (λ x. 2 ^ x) (let g : D - 1 + 1 ≡ D = omega arith in g)) in
-    subst (CutPlace D 1) e (record { low = low; high = high; names = names-named D (cutPlace D (D - 1) 1) (D - 1) 1 (omega arith) m })
+    subst (CutPlace D 1) e (cut-place D 0 (D - 1) 1 (omega arith) at-root (omega arith))
 
 -- where no other place but 0 is set, no other node is cut
 module _ (D : ℕ) (f : ℕ → ℕ) (l : 1 ≤ D) (h : D ≤ 17) (one : f (2 ^ (D - 1)) ≡ 1)
@@ -40,7 +38,7 @@ module _ (D : ℕ) (f : ℕ → ℕ) (l : 1 ≤ D) (h : D ≤ 17) (one : f (2 ^ 
   pub only-root : (n : ℕ) → Cut D f n ↔ (n ≡ 1)
   only-root n = (
     λ c. go c (ℕ-discrete (c .place) (2 ^ (D - 1))),
-    λ e. subst (Cut D f) (sym e) (cut-set D f h (root-place D l h) .1 one),
+    λ e. subst (Cut D f) (sym e) (cut-set D f (omega arith) (root-place D l h) .1 one),
   )
     where
       go : (c : Cut D f n) → Dec (c .place ≡ 2 ^ (D - 1)) → n ≡ 1

@@ -1,54 +1,25 @@
 -- The laws of leaf bits, told of a good panel and its words: a word counts the leaf bits set below its node.
-use mathlib.Core.Path.{_≡_, sym, ap, ap₂, _∙_, subst}
+use mathlib.Core.Path.{_≡_, sym, ap, _∙_}
 use mathlib.Core.Logic.{_↔_}
 use mathlib.Core.List.{List}
-use Prim.Native.Nat.{ℕ, zero, suc, _+_, _-_, _*_, _/_, _^_, _≤_, _<_}
+use Prim.Native.Nat.{ℕ, suc, _+_, _-_, _*_, _/_, _^_, _≤_, _<_}
 use native.Mathlib.Omega.{arith}
-use lib.Pow.{pow-pos, pow-mono}
-use Rattle.bits.proofs.Laws.{bit-lt}
 use Rattle.nodes.specs.Depth.{depthOf}
-use Rattle.nodes.proofs.Depths.{At, at-left, at-right, at-root, at-depth, depth-le}
+use Rattle.nodes.proofs.Depths.{At, at-left, at-depth, depth-le}
 use Rattle.sums.specs.Rank.{rank}
 use Rattle.sums.specs.Words.{word, leafBit}
-use Rattle.sums.specs.Sums.{SumsRight}
-use Rattle.sums.proofs.Slots.{leaf-word}
+use Rattle.sums.proofs.Counts.{byNode, sum, leaf-bits, word-sum, word-all}
 use Rattle.cuts.specs.Cuts.{CoverOnce, placeOf}
 use Rattle.panel.specs.Panels.{deepOf, CutOf, Good, InRange, LeafOf, numberIn, leafCount}
 use Rattle.panel.specs.Calls.{LeafNumbered}
-use Rattle.cuts.proofs.NodeSums.{sum}
-use Rattle.cuts.proofs.Places.{byNode}
 use Rattle.cuts.proofs.Leaves.{GoodBits, cover-once, leaf-range}
 use Rattle.cuts.proofs.Numbering as numbering
-use Rattle.cuts.proofs.Ranks as ranks
 use Rattle.cuts.proofs.Descent as descent
 use Rattle.cuts.proofs.Areas.{total, shares}
 
-pub leaf-bit-small : (D : ℕ) (s : List ℕ) (p : ℕ) → leafBit D s p ≤ 1
-unfolding leafBit
-leaf-bit-small D s p = omega (arith, bit-lt s (3 * 2 ^ D + p))
-
--- ---- words
-
-module _ (D : ℕ) (s : List ℕ) (R : SumsRight D s) where
-  -- a word counts the leaf bits set below its node
-  pub word-sum : (d j n : ℕ) → At d n → d + j ≡ D → word D s n ≡ sum (byNode D (leafBit D s)) j n
-  unfolding sum
-  word-sum d zero n a e =
-      let b : At D n = subst (λ x. At x n) (let q : d ≡ D = omega arith in q) a in
-      ap (word D s) (let q : n ≡ 2 ^ D + (n - 2 ^ D) = omega (arith, b) in q) ∙ leaf-word D (n - 2 ^ D) s (omega (arith, b))
-  word-sum d (suc j) n a e =
-      R n (omega (arith, a, pow-pos d)) (omega (arith, a, pow-mono (let q : suc d ≤ D = omega arith in q)))
-      ∙ ap₂ (λ x y. x + y) (word-sum (suc d) j (2 * n) (at-left a) (omega arith)) (word-sum (suc d) j (2 * n + 1) (at-right a) (omega arith))
-
-  -- word 1 is the count of the leaf bits that are set
-  pub word-count : word D s 1 ≡ rank (leafBit D s) (2 ^ D)
-  word-count = word-sum 0 D 1 at-root (omega arith) ∙ ranks.sum-count D (leafBit D s)
-
--- ---- good panels
-
 module _ (s : List ℕ) (G : Good s) where
   pub good-bits : GoodBits (deepOf s) (leafBit (deepOf s) s)
-  good-bits = record { deep = omega (arith, G .fits .high); small = leaf-bit-small (deepOf s) s; start = G .first; cuts = G .cuts }
+  good-bits = record { deep = omega (arith, G .fits .high); small = leaf-bits (deepOf s) s; start = G .first; cuts = G .cuts }
 
   word-is : (d j n : ℕ) → At d n → d + j ≡ deepOf s → word (deepOf s) s n ≡ sum (byNode (deepOf s) (leafBit (deepOf s) s)) j n
   word-is = word-sum (deepOf s) s (G .right .sums)
@@ -92,25 +63,25 @@ module _ (s : List ℕ) (G : Good s) where
   -- how many leaves stand left of a node: none left of node 1, as many left of a left child as of its parent,
   -- and left of a right child its sibling's word more
   pub number-root : numberIn s 1 ≡ 0
-  number-root = ranks.number-root (deepOf s) (leafBit (deepOf s) s)
+  number-root = numbering.number-root (deepOf s) (leafBit (deepOf s) s)
 
   module _ (n : ℕ) (l : 1 ≤ n) (h : depthOf n < deepOf s) where
     at : At (depthOf n) n
     at = at-depth l
 
     pub number-left : numberIn s (2 * n) ≡ numberIn s n
-    number-left = ranks.number-left (deepOf s) (leafBit (deepOf s) s) (depthOf n) (deepOf s - suc (depthOf n)) n at (omega arith)
+    number-left = numbering.number-left (deepOf s) (leafBit (deepOf s) s) (depthOf n) (deepOf s - suc (depthOf n)) n at (omega arith)
 
     pub number-right : numberIn s (2 * n + 1) ≡ numberIn s n + word (deepOf s) s (2 * n)
     number-right =
         omega (
           arith,
-          ranks.number-right (deepOf s) (leafBit (deepOf s) s) (depthOf n) (deepOf s - suc (depthOf n)) n at (omega arith),
+          numbering.number-right (deepOf s) (leafBit (deepOf s) s) (depthOf n) (deepOf s - suc (depthOf n)) n at (omega arith),
           word-is (suc (depthOf n)) (deepOf s - suc (depthOf n)) (2 * n) (at-left at) (omega arith),
         )
 
   count-is : leafCount s ≡ rank (leafBit (deepOf s) s) (2 ^ deepOf s)
-  count-is = word-count (deepOf s) s (G .right .sums)
+  count-is = word-all (deepOf s) s (G .right .sums)
 
   -- a leaf's number is below the count, and each number below the count is that of exactly one leaf
   pub number-lt : (k : ℕ) → LeafOf s k → numberIn s k < leafCount s

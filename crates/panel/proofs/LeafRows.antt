@@ -35,20 +35,18 @@ module _ {s : List ℕ} {i : ℕ} where
 
 -- ---- what a call that is done has passed
 
-pub good-past : {s : List ℕ} (rows : List Row) → Answers (panelRows s ++ rows) 0 → Good s × Answers rows 0
-good-past rows (inl p) = absurd (omega (arith, p .1))
-good-past rows (inr (l, inl p)) = absurd (omega (arith, p .1))
-good-past rows (inr (l, inr a)) = a
-
-pub leaf-past : {s : List ℕ} {k : ℕ} (rows : List Row) → Answers (leafRows s k ++ rows) 0 → Good s × LeafOf s k × Answers rows 0
-leaf-past {s} {k} rows a = let (g, b) = good-past (unless 3 (InRange s k) ∷ unless 4 (LeafOf s k) ∷ rows) a in let (l, c) = go b in (g, l, c)
-  where
-    go : Answers (unless 3 (InRange s k) ∷ unless 4 (LeafOf s k) ∷ rows) 0 → LeafOf s k × Answers rows 0
-    go (inl p) = absurd (omega (arith, p .1))
-    go (inr (r, inl p)) = absurd (omega (arith, p .1))
-    go (inr (r, inr a)) = a
-
--- .. of one row more
+-- a row
 pub row-past : {n : ℕ} {P : Type 0} (rows : List Row) → n ≢ 0 → Answers (unless n P ∷ rows) 0 → P × Answers rows 0
 row-past rows z (inl p) = absurd (z (sym (p .1)))
 row-past rows z (inr a) = a
+
+-- the judgement
+pub good-past : {s : List ℕ} (rows : List Row) → Answers (panelRows s ++ rows) 0 → Good s × Answers rows 0
+good-past {s} rows a = row-past rows (omega arith) (row-past (unless 2 (Good s) ∷ rows) (omega arith) a .1)
+
+-- the judgement and the rows of a leaf
+pub leaf-past : {s : List ℕ} {k : ℕ} (rows : List Row) → Answers (leafRows s k ++ rows) 0 → Good s × LeafOf s k × Answers rows 0
+leaf-past {s} {k} rows a =
+    let (g, b) = good-past (unless 3 (InRange s k) ∷ unless 4 (LeafOf s k) ∷ rows) a in
+    let (l, c) = row-past rows (omega arith) (row-past (unless 4 (LeafOf s k) ∷ rows) (omega arith) b .1) in
+    (g, l, c)

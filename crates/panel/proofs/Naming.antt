@@ -1,20 +1,19 @@
 -- The leaf bit that names a node, as the code finds it and reads it.
 use mathlib.Core.Path.{_≡_, sym, ap, _∙_}
-use mathlib.Core.Logic.{_↔_}
 use Prim.Native.Nat.{ℕ, _+_, _-_, _*_, _/_, _%_, _^_, _≤_, _<_}
 use native.Mathlib.Nat.{div-le-self, mod-eq-of-lt}
 use native.Mathlib.Omega.{arith}
 use lib.Pow.{pow-mono, pow-pos}
 use lib.Dec.{eqb}
 use lib.Count.{trailingZeros}
-use borrow.Author.Tests.{eqb-true, eqb-false}
 use Rattle.bits.proofs.Laws.{one-shl}
 use Rattle.nodes.specs.Depth.{depthOf}
 use Rattle.nodes.specs.Table.{Says}
 use Rattle.nodes.proofs.Depths.{at-depth, depth-is}
+use Rattle.nodes.proofs.Tables.{says-equal}
 use Rattle.cuts.specs.Cuts.{Cut, named}
 use Rattle.cuts.specs.Steps.{CutPlace}
-use Rattle.cuts.proofs.Places.{cutPlace, cut-place, place-name, names-zeros, names-named, named-once}
+use Rattle.cuts.proofs.Places.{cut-place, cut-set, place-name, names-zeros, names-named}
 
 -- the code's shifts lose nothing
 pub record Placed (D n j : ℕ) : Type 0 where
@@ -25,26 +24,18 @@ pub record Placed (D n j : ℕ) : Type 0 where
 
 pub placed : (D n j : ℕ) → D ≤ 17 → 1 ≤ n → depthOf n + 1 + j ≡ D → Placed D n j
 placed D n j l p h =
-    let (low, high, m) = cut-place D (depthOf n) j n (at-depth p) (omega arith) in
-    let s = m .place in
+    let c = cut-place D (depthOf n) j n (omega arith) (at-depth p) (omega arith) in
     let q : 2 ^ D ≤ 2 ^ 17 = pow-mono l in
     record {
-      first = omega (arith, s);
-      shift = mod-eq-of-lt (omega (arith, s));
+      first = omega (arith, c .low);
+      shift = mod-eq-of-lt (omega (arith, c .high));
       deep = one-shl D 64 (omega arith);
-      found = record { low = low; high = high; names = names-named D (cutPlace D j n) j n (omega arith) m };
+      found = c;
     }
 
--- n is cut exactly where the bit that names it is set
-module _ (D : ℕ) (f : ℕ → ℕ) (l : D ≤ 17) {n p : ℕ} (c : CutPlace D n p) where
-  pub cut-set : Cut D f n ↔ (f p ≡ 1)
-  cut-set = (
-    λ x. ap f (named-once D p (x .place) (omega arith) (c .low) (c .high) (x .low) (x .high) (c .names ∙ sym (x .names))) ∙ x .set,
-    λ s. record { place = p; low = c .low; high = c .high; set = s; names = c .names },
-  )
-
-  pub says-cut : (b : ℕ) → b ≡ f p → Says (Cut D f n) (eqb b 1)
-  says-cut b e = record { yes = λ t. cut-set .1 (sym e ∙ eqb-true b 1 t); no = λ t x. eqb-false b 1 t (e ∙ cut-set .0 x) }
+-- the bit that names n says whether n is cut
+pub says-cut : (D : ℕ) (f : ℕ → ℕ) → D ≤ 17 → {n p : ℕ} → CutPlace D n p → (b : ℕ) → b ≡ f p → Says (Cut D f n) (eqb b 1)
+says-cut D f l c b e = let s = cut-set D f (omega arith) c in says-equal b 1 (λ t. s .1 (sym e ∙ t)) (λ x. e ∙ s .0 x)
 
 -- ---- the node that a place names, as the code finds it
 

@@ -1,15 +1,15 @@
 -- Two results that one input allows are equal, for every call on a panel: what is done is settled by cuts, and cuts settle the bytes.
-use mathlib.Core.Path.{_≡_, sym, ap, _∙_}
-use mathlib.Core.Logic.{inl, inr, Iff·symm, Iff·trans}
-use mathlib.Core.List.{List, [], _∷_, _++_}
+use mathlib.Core.Path.{_≡_, sym, ap, _∙_, subst}
+use mathlib.Core.Logic.{Iff·symm, Iff·trans}
+use mathlib.Core.List.{List, [], _∷_}
 use Prim.Native.Nat.{ℕ, _-_, _^_, _<_}
-use native.Mathlib.Omega.{arith}
 use Rattle.bits.proofs.Laws.{Bytes}
 use Rattle.nodes.specs.Table.{Row, unless, Answers, Outcome}
 use Rattle.nodes.proofs.Tables.{answers-one, outcome-one}
 use Rattle.panel.specs.Panels.{Good, leafCount}
 use Rattle.panel.specs.Calls.{panelRows, Judged, Count, LeafBits, LeafNumbered, LeafAt, NumberOf, Fresh, Open, SplitAt, Split, MergeAt, Merge}
 use Rattle.cuts.proofs.ForcedCuts.{smallest-one}
+use Rattle.panel.proofs.LeafRows.{numberRows, good-past}
 use Rattle.panel.proofs.GoodPanels.{number-once}
 use Rattle.panel.proofs.SameBytes.{dec-cuts, bytes-same}
 
@@ -30,12 +30,6 @@ leaf-bits-one s n m t u = outcome-one _ (List ℕ) _ _ (equal (List ℕ) _) (equ
 pub number-of-one : (s : List ℕ) (k n m i j : ℕ) → NumberOf s k n i → NumberOf s k m j → (n ≡ m) × (i ≡ j)
 number-of-one s k n m i j = outcome-one _ ℕ _ _ (equal ℕ _) (equal ℕ 0) n m i j
 
--- a call that passes the first two rows has a good panel
-passed-good : (s : List ℕ) (rows : List Row) (n : ℕ) → n ≡ 0 → Answers (panelRows s ++ rows) n → Good s
-passed-good s rows n z (inl a) = absurd (omega (arith, a .1))
-passed-good s rows n z (inr (r, inl a)) = absurd (omega (arith, a .1))
-passed-good s rows n z (inr (r, inr a)) = a .0
-
 -- the same outcome, with more known where it is done
 known : {rows : List Row} {A : Type 0} {Done More Refused : A → Type 0} {n : ℕ} {x : A}
     → Outcome rows A Done Refused n x → (n ≡ 0 → Done x → More x) → Outcome rows A More Refused n x
@@ -44,8 +38,10 @@ known o f = record { answer = o .answer; done = λ z. f z (o .done z); refused =
 pub leaf-at-one : (s : List ℕ) (i n m k l : ℕ) → LeafAt s i n k → LeafAt s i m l → (n ≡ m) × (k ≡ l)
 leaf-at-one s i n m k l p q =
     outcome-one _ ℕ (λ x. Good s × LeafNumbered s i x) _ (λ x y a b. number-once s (a .0) i x y (a .1) (b .1)) (equal ℕ 0) n m k l
-    (known p (λ z d. (passed-good s (unless 8 (i < leafCount s) ∷ []) n z (p .answer), d)))
-    (known q (λ z d. (passed-good s (unless 8 (i < leafCount s) ∷ []) m z (q .answer), d)))
+    (with-good n k p) (with-good m l q)
+  where
+    with-good : (n k : ℕ) → LeafAt s i n k → Outcome (numberRows s i) ℕ (λ x. Good s × LeafNumbered s i x) (λ x. x ≡ 0) n k
+    with-good n k p = known p (λ z d. (good-past (unless 8 (i < leafCount s) ∷ []) (subst (Answers (numberRows s i)) z (p .answer)) .0, d))
 
 -- ---- calls that change a panel
 

@@ -11,12 +11,12 @@ use Rattle.bits.proofs.Laws.{Bytes}
 use Rattle.nodes.specs.Depth.{depthOf}
 use Rattle.sums.specs.Words.{leafBit}
 use Rattle.sums.specs.Sums.{Right}
+use Rattle.sums.proofs.Counts.{leaf-bits}
 use Rattle.sums.proofs.Unique.{right-one}
 use Rattle.cuts.specs.Cuts.{Cut}
 use Rattle.panel.specs.Panels.{deepOf, CutOf, Good}
 use Rattle.panel.proofs.Lengths.{fits-bits}
 use Rattle.cuts.proofs.Places.{dec-cut}
-use Rattle.panel.proofs.GoodPanels.{leaf-bit-small}
 use Rattle.cuts.proofs.OneBit.{bits-same}
 
 -- the depth comes from the length
@@ -38,7 +38,7 @@ past bs p h = omega (arith, ap (λ (x : ℕ). digit x (p % 8)) (List·getD-eq-de
 pub bytes-same : {s t : List ℕ} → Good s → Good t → length s ≡ length t → Bytes s → Bytes t → ((n : ℕ) → 1 ≤ n → (CutOf s n ↔ CutOf t n)) → s ≡ t
 bytes-same {s} {t} S T e bs bt c =
     right-one bs bt e (S .right) (subst (λ D. Right D t) d (T .right))
-    (bits-same (deepOf s) (omega (arith, S .fits .high)) (leafBit (deepOf s) s) (leafBit (deepOf s) t) (leaf-bit-small (deepOf s) s) (leaf-bit-small (deepOf s) t)
+    (bits-same (deepOf s) (omega (arith, S .fits .high)) (leafBit (deepOf s) s) (leafBit (deepOf s) t) (leaf-bits (deepOf s) s) (leaf-bits (deepOf s) t)
     (S .first ∙ sym (subst (λ D. leafBit D t 0 ≡ 1) d (T .first))) (λ n h. Iff·trans (c n h) (cut-of s t (sym e) n)))
     (λ p h. past s p (omega (arith, fits-bits s (deepOf s) (S .fits))) ∙ sym (past t p (omega (arith, fits-bits s (deepOf s) (S .fits)))))
   where

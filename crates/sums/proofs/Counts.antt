@@ -1,18 +1,17 @@
 -- Right sums count: a node's word is the number of set leaf bits below it, so ranks are found by words on the way down from node 1.
 use mathlib.Core.Path.{_≡_, sym, ap, ap₂, _∙_, subst}
 use mathlib.Core.List.{List}
-use Prim.Native.Nat.{ℕ, zero, suc, _+_, _-_, _*_, _^_, _≤_, _<_}
-use native.Mathlib.Nat.{add-zero, one-mul, mul-one, mul-assoc, mul-comm, add-mul, mul-le-mul-right}
-use native.Mathlib.Decide.{decLt}
+use Prim.Native.Nat.{ℕ, zero, suc, _+_, _-_, _*_, _^_}
+use native.Mathlib.Nat.{add-zero, one-mul, mul-one, pow-suc}
 use native.Mathlib.Omega.{arith}
-use lib.Pow.{pow-pos, pow-mono, pow-add}
+use lib.Pow.{pow-pos, pow-mono}
 use Rattle.bits.proofs.Laws.{bit-lt}
 use Rattle.nodes.proofs.Depths.{At, at-root, at-left, at-right}
 use Rattle.sums.specs.Words.{word, leafBit}
 use Rattle.sums.specs.Sums.{SumsRight}
 use Rattle.sums.specs.Rank.{rank}
 use Rattle.sums.proofs.Slots.{leaf-word}
-use Rattle.sums.proofs.Ranks.{Bits, unset, rank-none, rank-next, rank-add, rank-lt, rank-ext, select}
+use Rattle.sums.proofs.Ranks.{Bits, rank-none, rank-next, rank-add, rank-ext}
 
 -- a leaf bit by its node of depth D
 abbrev pub byNode : ℕ → (ℕ → ℕ) → ℕ → ℕ
@@ -27,27 +26,15 @@ sum f (suc j) n = sum f j (2 * n) + sum f j (2 * n + 1)
 abbrev pub place : ℕ → ℕ → ℕ → ℕ
 place D j n = n * 2 ^ j - 2 ^ D
 
-pub sum-le : (f : ℕ → ℕ) → Bits f → (j n : ℕ) → sum f j n ≤ 2 ^ j
-unfolding sum
-sum-le f two zero n = two n
-sum-le f two (suc j) n = omega (arith, sum-le f two j (2 * n), sum-le f two j (2 * n + 1))
-
-pub sum-unset : (f : ℕ → ℕ) → Bits f → (j n : ℕ) → sum f j n + sum (unset f) j n ≡ 2 ^ j
-unfolding sum
-sum-unset f two zero n = omega (arith, two n)
-sum-unset f two (suc j) n = omega (arith, sum-unset f two j (2 * n), sum-unset f two j (2 * n + 1))
-
 -- ---- the leaves below a node
 
 -- its left child's are the first half ..
-first-left : (j n : ℕ) → 2 * n * 2 ^ j ≡ n * 2 ^ suc j
-first-left j n =
-    let two : 2 * 2 ^ j ≡ 2 ^ suc j = omega arith in
-    ap (λ (x : ℕ). x * 2 ^ j) (mul-comm 2 n) ∙ mul-assoc n 2 (2 ^ j) ∙ ap (λ (x : ℕ). n * x) two
+pub first-left : (j n : ℕ) → 2 * n * 2 ^ j ≡ n * 2 ^ suc j
+first-left j n = rw pow-suc (omega arith)
 
 -- .. and its right child's the second
-first-right : (j n : ℕ) → (2 * n + 1) * 2 ^ j ≡ n * 2 ^ suc j + 2 ^ j
-first-right j n = omega (arith, add-mul (2 * n) 1 (2 ^ j), one-mul (2 ^ j), first-left j n)
+pub first-right : (j n : ℕ) → (2 * n + 1) * 2 ^ j ≡ n * 2 ^ suc j + 2 ^ j
+first-right j n = omega (arith, first-left j n)
 
 -- the sum counts what is set from the first on
 pub sum-rank : (f : ℕ → ℕ) (j n : ℕ) → rank f (n * 2 ^ j + 2 ^ j) ≡ rank f (n * 2 ^ j) + sum f j n
@@ -67,8 +54,9 @@ sum-rank f (suc j) n =
     )
 
 -- all leaves below a node of depth d are of depth D
-pub first-low : (D d j n : ℕ) → At d n → d + j ≡ D → 2 ^ D ≤ n * 2 ^ j
-first-low D d j n a e = omega (arith, mul-le-mul-right {m = 2 ^ d} {n = n} (2 ^ j) (a .low), pow-add 2 d j, ap (λ (x : ℕ). 2 ^ x) e)
+pub at-first : (D d j n : ℕ) → At d n → d + j ≡ D → At D (n * 2 ^ j)
+at-first D d zero n a e = subst (λ x. At x (n * 1)) (sym (add-zero d) ∙ e) (omega arith)
+at-first D d (suc j) n a e = subst (At D) (first-left j n) (at-first D (suc d) j (2 * n) (at-left a) (omega arith))
 
 -- ---- going down, over any bits f by place
 
@@ -86,7 +74,7 @@ module _ (D : ℕ) (f : ℕ → ℕ) where
   -- the 2 ^ j places below n
   pub rank-below : (d j n : ℕ) → At d n → d + j ≡ D → rank f (place D j n + 2 ^ j) ≡ rank f (place D j n) + sum (byNode D f) j n
   rank-below d j n a e =
-      let l = first-low D d j n a e in
+      let l = at-first D d j n a e .low in
       omega (
         arith,
         by-node (place D j n),
@@ -102,17 +90,6 @@ module _ (D : ℕ) (f : ℕ → ℕ) where
       let e : place D D 1 ≡ 0 = omega (arith, one-mul (2 ^ D)) in
       omega (arith, rank-below 0 D 1 at-root (omega arith), rank-root, ap (λ (x : ℕ). rank f (x + 2 ^ D)) e, ap (rank f) {x = 0 + 2 ^ D} {y = 2 ^ D} (omega arith))
 
-  -- each number below the sum is the rank, counted from the first place on, of a set bit below n
-  pub select-below : Bits f → (d j n i : ℕ) → At d n → d + j ≡ D → i < sum (byNode D f) j n
-      → (p : ℕ) × (place D j n ≤ p) × (p < place D j n + 2 ^ j) × (f p ≡ 1) × (rank f p ≡ rank f (place D j n) + i)
-  select-below two d j n i a e h =
-      let (p, l, s, r) = select f two (place D j n + 2 ^ j) (rank f (place D j n) + i) (omega (arith, rank-below d j n a e)) in
-      (p, low p s r (decLt p (place D j n)), l, s, r)
-    where
-      low : (p : ℕ) → f p ≡ 1 → rank f p ≡ rank f (place D j n) + i → Dec (p < place D j n) → place D j n ≤ p
-      low p s r (yes b) = absurd (omega (arith, rank-lt f p (place D j n) s b))
-      low p s r (no b) = omega arith
-
   -- from n, k levels above depth D, to its children, j levels above
   module _ (j k : ℕ) (s : k ≡ j + 1) (n : ℕ) where
     levels : n * 2 ^ suc j ≡ n * 2 ^ k
@@ -127,7 +104,7 @@ module _ (D : ℕ) (f : ℕ → ℕ) where
 
     -- the right child begins where the left one ends
     pub place-right : (d : ℕ) → At d n → d + k ≡ D → place D j (2 * n + 1) ≡ place D k n + 2 ^ j
-    place-right d a e = omega (arith, first-right j n, levels, first-low D d k n a e)
+    place-right d a e = omega (arith, first-right j n, levels, at-first D d k n a e .low)
 
     pub rank-right : (d : ℕ) → At d n → d + k ≡ D → rank f (place D j (2 * n + 1)) ≡ rank f (place D k n) + sum (byNode D f) j (2 * n)
     rank-right d a e =
@@ -166,23 +143,3 @@ module _ (D : ℕ) (bs : List ℕ) where
     -- word 1 counts all set leaf bits
     pub word-all : word D bs 1 ≡ rank (leafBit D bs) (2 ^ D)
     word-all = word-sum 0 D 1 at-root (omega arith) ∙ sym (rank-all D (leafBit D bs))
-
-    module _ (d j n : ℕ) (a : At d n) (e : d + j ≡ D) where
-      -- word n counts those below n
-      pub word-rank : rank (leafBit D bs) (place D j n + 2 ^ j) ≡ rank (leafBit D bs) (place D j n) + word D bs n
-      word-rank = omega (arith, rank-below D (leafBit D bs) d j n a e, word-sum d j n a e)
-
-      pub word-le : word D bs n ≤ 2 ^ j
-      word-le = omega (arith, word-sum d j n a e, sum-le (byNode D (leafBit D bs)) (λ N. leaf-bits (N - 2 ^ D)) j n)
-
-      -- and leaves the unset ones
-      pub word-unset : sum (byNode D (unset (leafBit D bs))) j n ≡ 2 ^ j - word D bs n
-      word-unset = omega (arith, word-sum d j n a e, sum-unset (byNode D (leafBit D bs)) (λ N. leaf-bits (N - 2 ^ D)) j n)
-
-    -- the set and the unset leaf bits left of a right child
-    module _ (d j k n : ℕ) (s : k ≡ j + 1) (a : At d n) (e : d + k ≡ D) where
-      pub set-right : rank (leafBit D bs) (place D j (2 * n + 1)) ≡ rank (leafBit D bs) (place D k n) + word D bs (2 * n)
-      set-right = omega (arith, rank-right D (leafBit D bs) j k s n d a e, word-sum (suc d) j (2 * n) (at-left a) (omega arith))
-
-      pub unset-right : rank (unset (leafBit D bs)) (place D j (2 * n + 1)) ≡ rank (unset (leafBit D bs)) (place D k n) + (2 ^ j - word D bs (2 * n))
-      unset-right = omega (arith, rank-right D (unset (leafBit D bs)) j k s n d a e, word-unset (suc d) j (2 * n) (at-left a) (omega arith))

@@ -12,10 +12,6 @@ use Rattle.sums.specs.Rank.{rank}
 abbrev pub Bits : (ℕ → ℕ) → Type 0
 Bits f = (p : ℕ) → f p ≤ 1
 
--- the bits that are not set
-abbrev pub unset : (ℕ → ℕ) → ℕ → ℕ
-unset f p = 1 - f p
-
 module _ (f : ℕ → ℕ) where
   pub rank-none : rank f 0 ≡ 0
   unfolding rank
@@ -55,30 +51,15 @@ module _ (f : ℕ → ℕ) where
       go (no l) (yes y) = absurd (omega (arith, rank-lt q p t y))
       go (no l) (no y) = omega arith
 
-  module _ (two : Bits f) where
-    pub rank-le : (m : ℕ) → rank f m ≤ m
-    unfolding rank
-    rank-le zero = omega arith
-    rank-le (suc m) = omega (arith, rank-le m, two m)
-
-    -- each number below the count is the rank of a set bit
-    pub select : (m i : ℕ) → i < rank f m → (p : ℕ) × (p < m) × (f p ≡ 1) × (rank f p ≡ i)
-    unfolding rank
-    select zero i h = absurd (omega arith)
-    select (suc m) i h = go (select m i) (decLt i (rank f m))
-      where
-        go : (i < rank f m → (p : ℕ) × (p < m) × (f p ≡ 1) × (rank f p ≡ i)) → Dec (i < rank f m) → (p : ℕ) × (p < suc m) × (f p ≡ 1) × (rank f p ≡ i)
-        go ih (yes q) = let (p, l, s, e) = ih q in (p, omega arith, s, e)
-        go ih (no q) = (m, omega arith, omega (arith, two m), omega (arith, two m))
-
-    -- each bit is set or unset
-    pub rank-unset : (p : ℕ) → rank f p + rank (unset f) p ≡ p
-    unfolding rank
-    rank-unset zero = refl
-    rank-unset (suc p) = omega (arith, rank-unset p, two p)
-
-    pub unset-is : (p : ℕ) → (unset f p ≡ 1) ↔ (f p ≡ 0)
-    unset-is p = (λ e. omega (arith, two p), λ e. omega arith)
+  -- each number below the count is the rank of a set bit
+  pub select : Bits f → (m i : ℕ) → i < rank f m → (p : ℕ) × (p < m) × (f p ≡ 1) × (rank f p ≡ i)
+  unfolding rank
+  select two zero i h = absurd (omega arith)
+  select two (suc m) i h = go (select two m i) (decLt i (rank f m))
+    where
+      go : (i < rank f m → (p : ℕ) × (p < m) × (f p ≡ 1) × (rank f p ≡ i)) → Dec (i < rank f m) → (p : ℕ) × (p < suc m) × (f p ≡ 1) × (rank f p ≡ i)
+      go ih (yes q) = let (p, l, s, e) = ih q in (p, omega arith, s, e)
+      go ih (no q) = (m, omega arith, omega (arith, two m), omega (arith, two m))
 
 -- the same bits have the same ranks
 pub rank-ext : (f g : ℕ → ℕ) (m : ℕ) → ((p : ℕ) → p < m → f p ≡ g p) → rank f m ≡ rank g m

@@ -3,11 +3,12 @@ use mathlib.Core.Path.{_≡_, subst⁻¹}
 use Prim.Native.Nat.{ℕ, _+_, _/_, _%_, _^_}
 use native.Mathlib.Omega.{arith}
 use lib.Dec.{ltb, eqb}
-use borrow.Author.Tests.{ltb-true, ltb-false, eqb-true, eqb-false}
+use borrow.Author.Tests.{ltb-true, ltb-false}
 use borrow.Author.Needs.{needs}
 use Rattle.nodes.specs.declared.numbers.Node.{Node}
 use Rattle.nodes.specs.declared.numbers.LeafNumber.{LeafNumber}
 use Rattle.nodes.specs.Table.{Says}
+use Rattle.nodes.proofs.Tables.{says-equal}
 use Rattle.panel.specs.declared.descending.Aim.{Aim}
 use Rattle.panel.specs.declared.descending.Aim.the-variants.{Number, Below}
 use Rattle.panel.specs.Descents.{Leftward}
@@ -23,7 +24,7 @@ module _ (left w b : ℕ) {aim : Aim} where
   below : {n : Node} → aim ≡ Below n → Says (Leftward left w b aim) (eqb (n .0 / 2 ^ left % 2) 0)
   below {n} e =
       subst⁻¹ (λ x. Says (Leftward left w b x) (eqb (n .0 / 2 ^ left % 2) 0)) e
-      (record { yes = eqb-true (n .0 / 2 ^ left % 2) 0; no = eqb-false (n .0 / 2 ^ left % 2) 0 })
+      (says-equal (n .0 / 2 ^ left % 2) 0 (λ z. z) (λ z. z))
 
 enum-known-aim : tie.Need-enum-known-aim
 enum-known-aim c = search needs

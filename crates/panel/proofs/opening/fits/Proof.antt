@@ -3,10 +3,9 @@ use mathlib.Core.Path.{sym, _∙_}
 use native.Mathlib.Omega.{arith}
 use lib.ListN.{length}
 use borrow.Author.Needs.{needs}
-use borrow.Author.Tests.{eqb-true, eqb-false}
 use Prim.Native.Nat.{_-_}
 use Rattle.bits.proofs.Laws.{one-shl}
-use Rattle.nodes.proofs.Tables.{says-no}
+use Rattle.nodes.proofs.Tables.{says-no, says-equal}
 use Rattle.panel.proofs.opening.fits.Statement.{statement}
 use Rattle.panel.proofs.opening.fits.Tie as tie
 
@@ -26,10 +25,7 @@ returns-3 : tie.Need-returns-3
 returns-3 c =
     let a = c .before .before .args in
     let e = one-shl (a .depth - 1) 64 (omega arith) in
-    record {
-      yes = λ t. record { low = omega arith; high = omega arith; long = eqb-true (length (a .panel .now)) _ t ∙ e };
-      no = λ t f. eqb-false (length (a .panel .now)) _ t (f .long ∙ sym e);
-    }
+    says-equal (length (a .panel .now)) _ (λ t. record { low = omega arith; high = omega arith; long = t ∙ e }) (λ f. f .long ∙ sym e)
 
 pub fits-spec : {M : Type 1} → statement M
 fits-spec = tie.close (tie.spec returns returns-2 sub-result shl-result returns-3)

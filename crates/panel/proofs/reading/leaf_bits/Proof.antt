@@ -1,11 +1,12 @@
 -- The number answered is the judgement's; where it is 0 the part is the leaf bits'.
 use mathlib.Core.Path.{_≡_, refl, ap, _∙_, subst, subst⁻¹}
+use mathlib.Core.List.{[]}
 use Prim.Native.Nat.{ℕ, _-_, _*_, _^_}
 use lib.ListN.{take, drop}
 use Rattle.nodes.proofs.Tables.{is-refused}
 use Rattle.panel.specs.Panels.{deepOf, Good}
 use Rattle.panel.specs.Calls.{Judged}
-use Rattle.panel.proofs.Rows.{good-if}
+use Rattle.panel.proofs.LeafRows.{good-past}
 use Rattle.panel.proofs.Downward.{good-room}
 use Rattle.panel.proofs.Judgements.{good-deep}
 use borrow.Author.Needs.{needs}
@@ -17,7 +18,7 @@ judged : (c : tie.After-number) → Judged (c .before .before .before .args .pan
 judged c = subst⁻¹ (Judged (c .before .before .before .args .panel .now)) (c .number .ensures) (c .before .judge .ensures)
 
 good : (c : tie.Else1) → Good (c .before .before .before .before .args .panel .now)
-good c = good-if (subst (Judged (c .before .before .before .before .args .panel .now)) (c .if1 .left) (judged (c .before)))
+good c = good-past [] (subst (Judged (c .before .before .before .before .args .panel .now)) (c .if1 .left) (judged (c .before))) .0
 
 deep : (c : tie.After-depth-of) → c .depth-of .result ≡ deepOf (c .before .before .before .before .before .args .panel .now)
 deep c = good-deep (good (c .before)) (c .depth-of .ensures)
