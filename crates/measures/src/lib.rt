@@ -4,7 +4,6 @@ use nodes::Node;
 ghost use mathlib.Core.Path.{_≡_};
 ghost use Prim.Native.Nat.{_^_, _≤_, _<_};
 ghost use Rattle.nodes.specs.Neighbours.{edge};
-ghost use Rattle.nodes.specs.Refusals.{answerNumber};
 ghost use Rattle.nodes.specs.Table.{Says};
 ghost use Rattle.sums.specs.Words.{Room};
 ghost use Rattle.sums.specs.Sums.{Right, Summed};

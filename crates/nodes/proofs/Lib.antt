@@ -1,6 +1,7 @@
 pub mod Depths
 pub mod Neighbouring
 pub mod Edges
+pub mod Arrays
 pub mod Cornering
 pub mod Midpoints
 pub mod Sides

@@ -1,19 +1,20 @@
-// A node's corners: three points of two coordinates, in the order A, B, C.
+// A node's corners: three points of two coordinates, in the order A, B, C. A point is handed on coordinate by coordinate, so that
+// the six numbers stay in registers on the way down.
 use crate::numbers::Node;
 use crate::numbers::depth;
 use crate::numbers::known;
 use crate::refusals::Refusal;
 ghost use mathlib.Core.Path.{_≡_};
-ghost use Prim.Native.Nat.{_%_, _≤_};
-ghost use Rattle.nodes.specs.Corners.{InPanel, InSquare, midpoint, firstTriangle, leftTriangle, rightTriangle, cornersOf};
+ghost use Prim.Native.Nat.{_+_, _/_, _%_, _≤_};
+ghost use Rattle.nodes.specs.Corners.{InPanel, firstTriangle, leftTriangle, rightTriangle, cornersOf};
 ghost use Rattle.nodes.specs.Calls.{Corners};
 
-// The midpoint of two points.
-fn middle(a: [u32; 2], c: [u32; 2]) -> [u32; 2]
-    requires { ⌜ InSquare a × InSquare c ⌝ }
-    ensures { λ r. ⌜ r ≡ midpoint a c ⌝ }
+// The middle between two coordinates.
+fn middle(a: u32, c: u32) -> u32
+    requires { ⌜ (a ≤ 256) × (c ≤ 256) ⌝ }
+    ensures { λ r. ⌜ r ≡ (a + c) / 2 ⌝ }
 {
-    [(a[0] + c[0]) / 2, (a[1] + c[1]) / 2]
+    (a + c) / 2
 }
 
 // From a triangle to its left child: (A, M, B).
@@ -21,8 +22,9 @@ pub fn left_corners(t: [[u32; 2]; 3]) -> [[u32; 2]; 3]
     requires { ⌜ InPanel t ⌝ }
     ensures { λ r. ⌜ r ≡ leftTriangle t ⌝ }
 {
-    let m = middle(t[0], t[2]);
-    [t[0], m, t[1]]
+    let x = middle(t[0][0], t[2][0]);
+    let y = middle(t[0][1], t[2][1]);
+    [[t[0][0], t[0][1]], [x, y], [t[1][0], t[1][1]]]
 }
 
 // From a triangle to its right child: (B, M, C).
@@ -30,8 +32,9 @@ pub fn right_corners(t: [[u32; 2]; 3]) -> [[u32; 2]; 3]
     requires { ⌜ InPanel t ⌝ }
     ensures { λ r. ⌜ r ≡ rightTriangle t ⌝ }
 {
-    let m = middle(t[0], t[2]);
-    [t[1], m, t[2]]
+    let x = middle(t[0][0], t[2][0]);
+    let y = middle(t[0][1], t[2][1]);
+    [[t[1][0], t[1][1]], [x, y], [t[2][0], t[2][1]]]
 }
 
 // The corners of node 2 and of node 3.
