@@ -16,18 +16,18 @@ use Rattle.nodes.proofs.Depths.{At, at-left, at-right, at-depth, at-below, pow-
 use Rattle.nodes.proofs.Neighbouring.{right-child}
 use Rattle.nodes.proofs.Edges.{edge-0, edge-1, edge-2, edge-3, edge-second}
 use Rattle.sums.specs.Words.{leafBit, Room}
-use Rattle.sums.proofs.Rooms.{bounds}
+use Rattle.sums.proofs.Rooms.{whole-bytes, bounds}
 use Rattle.sums.proofs.Lowest.{pow-deep}
 use Rattle.cuts.specs.Cuts.{named, Cut, GoodCuts}
 use Rattle.cuts.specs.Steps.{Follows}
 use Rattle.cuts.proofs.CutBits.{first-suc}
 use Rattle.cuts.proofs.Following.{good-follows, first-follows, place-cut}
-use Rattle.cuts.proofs.Places.{Names, place-name, names-named, cut-place, cut-set}
+use Rattle.cuts.proofs.Places.{place-name, names-named, cut-place, cut-set}
 use Rattle.panel.specs.Judging.{AcrossCut, PlaceFollows, CutByte, ParentsBeside, Mirrored, TopFollows, SevenFollow, ByteFollows}
 
 -- ---- q, its children and theirs
 
--- what holds of four nodes holds of each child's child
+-- what holds of the four children of q's children, of its two children, and of q, holds of all seven
 four : (Q : ℕ → Type 0) (q : ℕ) → Q (4 * q) → Q (4 * q + 1) → Q (4 * q + 2) → Q (4 * q + 3) → (n : ℕ) → n / 4 ≡ q → Q n
 four Q q a b c d n e = go (decLe (n % 4) 0) (decLe (n % 4) 1) (decLe (n % 4) 2)
   where
@@ -107,7 +107,7 @@ own-set b h l u = go (ℕ-discrete (digit b 4) 1)
         absurd (omega (arith, clear b 1 b2 (omega (arith, u .first))))
 
 module _ {P : ℕ → Type 0} {q b : ℕ} (low : 1 ≤ q) (c : CutByte P q b) where
-  -- a byte without them names none of the seven
+  -- a byte without bits 1 to 7 names none of the seven
   pub none-follow : b < 2 → SevenFollow P q
   none-follow l = seven (λ n. P n → Follows P n) q (λ p. absurd (omega (arith, c .own .0 p)))
       (two _ q (λ p. absurd (omega (arith, c .left .0 p))) (λ p. absurd (omega (arith, c .right .0 p))))
@@ -185,17 +185,20 @@ module _ {P : ℕ → Type 0} {q b : ℕ} (low : 2 ≤ q) (c : CutByte P q b) wh
     }
 
   module _ (t : TopFollows P q) where
+    cross : (n m : ℕ) → n / 4 ≡ q → edge n ≡ m → 0 < m → P n → P m
+    cross n m h e l p = subst P e (t .across n h p (omega arith))
+
     pub top-middle : digit b 3 ≡ digit b 5
     top-middle =
-        let there : digit b 3 ≤ digit b 5 = beside _ _ (omega arith) (λ x. c .third .0 (subst P (second-across q low) (t .across (4 * q + 1) (omega arith) (c .second .1 x) (omega (arith, second-across q low))))) in
-        let back : digit b 5 ≤ digit b 3 = beside _ _ (omega arith) (λ x. c .second .0 (subst P (third-across q low) (t .across (4 * q + 2) (omega arith) (c .third .1 x) (omega (arith, third-across q low))))) in
+        let there : digit b 3 ≤ digit b 5 = beside _ _ (omega arith) (λ x. c .third .0 (cross _ _ (omega arith) (second-across q low) (omega arith) (c .second .1 x))) in
+        let back : digit b 5 ≤ digit b 3 = beside _ _ (omega arith) (λ x. c .second .0 (cross _ _ (omega arith) (third-across q low) (omega arith) (c .third .1 x))) in
         omega arith
 
     pub top-mirrored : {x : ℕ} → edge q ≢ 0 → CutByte P (edge q) x → Mirrored b x
     top-mirrored z y = record {
       own = beside _ _ (omega arith) (λ _. y .own .0 (t .own .over low z));
-      first = beside _ _ (omega arith) (λ h. y .fourth .0 (subst P (first-some q low z) (t .across (4 * q) (omega arith) (c .first .1 h) (omega (arith, first-some q low z)))));
-      fourth = beside _ _ (omega arith) (λ h. y .first .0 (subst P (fourth-across q low) (t .across (4 * q + 3) (omega arith) (c .fourth .1 h) (omega (arith, fourth-across q low)))));
+      first = beside _ _ (omega arith) (λ h. y .fourth .0 (cross _ _ (omega arith) (first-some q low z) (omega arith) (c .first .1 h)));
+      fourth = beside _ _ (omega arith) (λ h. y .first .0 (cross _ _ (omega arith) (fourth-across q low) (omega arith) (c .fourth .1 h)));
     }
 
 -- ---- the byte
@@ -253,7 +256,7 @@ module _ (D : ℕ) (f : ℕ → ℕ) (low : 3 ≤ D) (high : D ≤ 17) (all : (j
   places-follow p l h s = go (ℕ-discrete (p % 8) 0)
     where
       deep : 2 ^ D ≡ 8 * 2 ^ (D - 3)
-      deep = pow-deep D (D - 3) (omega arith)
+      deep = whole-bytes D low
 
       at : ByteFollows D f (p / 8)
       at = all (p / 8) (omega (arith, deep))

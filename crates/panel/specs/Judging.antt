@@ -14,7 +14,7 @@ pub record Deep (s : List ℕ) (r : ℕ) : Type 0 where
   pub none : r ≡ 0 → RightLength s → ⊥
   pub some : r ≢ 0 → RightLength s × (r ≡ deepOf s)
 
--- the edge neighbour of n is none or is cut
+-- the edge neighbour of n is none, or is cut
 abbrev pub AcrossCut : (ℕ → Type 0) → ℕ → Type 0
 AcrossCut P n = edge n ≢ 0 → P (edge n)
 
@@ -44,13 +44,13 @@ pub record ParentsBeside (b : ℕ) : Type 0 where
   pub third : digit b 5 ≤ digit b 6
   pub fourth : digit b 7 ≤ digit b 6
 
--- across q's long side, whose nodes b names, those that x names are cut: q's is e, 4q's is 4e + 3, and 4q + 3's is 4e
+-- x, the leaf byte below q's edge neighbour e, has what b asks for across q's long side: q asks for e, 4q for 4e + 3, 4q + 3 for 4e
 pub record Mirrored (b x : ℕ) : Type 0 where
   pub own : digit b 4 ≤ digit x 4
   pub first : digit b 1 ≤ digit x 7
   pub fourth : digit b 7 ≤ digit x 1
 
--- q may be cut, and across the long side of each of its children's children that is cut stands none, or a cut node
+-- q may be cut, and each cut child of its children has none or a cut node across its long side
 pub record TopFollows (P : ℕ → Type 0) (q : ℕ) : Type 0 where
   pub own : Follows P q
   pub across : (n : ℕ) → n / 4 ≡ q → P n → AcrossCut P n

@@ -21,7 +21,7 @@ fn leaf_byte(panel: &[u8], deep: usize, q: Node) -> u32
     bits::get_byte(panel, (1usize << (deep - 2)) + q.0 as usize)
 }
 
-// Whether each cut that leaf byte b names, but for q's own, has its parent's beside it.
+// Whether each cut that leaf byte b names, but for q's, has its parent's bit set beside it.
 fn parents_beside(b: u32) -> bool
     ensures { λ r. ⌜ Says (ParentsBeside b) r ⌝ }
 {
@@ -34,7 +34,7 @@ fn parents_beside(b: u32) -> bool
     b / 32 % 2 + b / 128 % 2 <= 2 * (b / 64 % 2)
 }
 
-// Whether the cuts of leaf byte b on q's long side stand in leaf byte x, below the edge neighbour of q, too: 4q's is 4e + 3, and back.
+// Whether x, the leaf byte below q's edge neighbour e, has what b asks for across q's long side: q asks for e, 4q for 4e + 3, 4q + 3 for 4e.
 fn mirrored(b: u32, x: u32) -> bool
     ensures { λ r. ⌜ Says (Mirrored b x) r ⌝ }
 {
@@ -47,8 +47,8 @@ fn mirrored(b: u32, x: u32) -> bool
     b / 128 % 2 <= x / 2 % 2
 }
 
-// Whether q, which is cut, may be, and what stands across the long sides of its children's children that are cut is. Of those the
-// middle two stand across from each other, and the outer two across q's own long side.
+// Whether q, which is cut, may be, and each cut child of its children has none or a cut node across its long side. Of these four the
+// middle two stand across from each other, the outer two across q's own long side. Below node 1 all four stand at the border.
 fn top_follows(panel: &[u8], deep: usize, q: Node, b: u32) -> bool
     requires { ⌜ Room deep (now panel) × (1 ≤ q .0) × (depthOf (q .0) + 3 ≡ deep) × CutByte (Cut deep (leafBit deep (now panel))) (q .0) b × (digit b 4 ≡ 1) ⌝ }
     ensures { λ r. ⌜ Says (TopFollows (Cut deep (leafBit deep (now (panel .entry)))) (q .0)) r ⌝ }
@@ -69,7 +69,7 @@ fn top_follows(panel: &[u8], deep: usize, q: Node, b: u32) -> bool
     false
 }
 
-// Whether n, a child of q, is not cut, c being 0, or its edge neighbour is none or is cut.
+// Whether n, a child of q whose bit is c, is not cut, or its edge neighbour is none or is cut.
 fn child_across(panel: &[u8], deep: usize, n: Node, c: u32) -> bool
     requires { ⌜ Room deep (now panel) × (2 ≤ n .0) × (depthOf (n .0) + 2 ≡ deep) × (c < 2) ⌝ }
     ensures { λ r. ⌜ Says (c ≡ 1 → AcrossCut (Cut deep (leafBit deep (now (panel .entry)))) (n .0)) r ⌝ }
@@ -80,7 +80,7 @@ fn child_across(panel: &[u8], deep: usize, n: Node, c: u32) -> bool
     across_cut(panel, deep, n, 1)
 }
 
-// Whether q, its children and theirs may be cut, where they are.
+// Whether q, its children and theirs, where they are cut, may be.
 fn seven_follow(panel: &[u8], deep: usize, q: Node) -> bool
     requires { ⌜ Room deep (now panel) × (1 ≤ q .0) × (depthOf (q .0) + 3 ≡ deep) ⌝ }
     ensures { λ r. ⌜ Says (SevenFollow (Cut deep (leafBit deep (now (panel .entry)))) (q .0)) r ⌝ }

@@ -1,6 +1,6 @@
 -- The byte's first bit names a node higher up, the others the seven below its node.
-use mathlib.Core.Path.{_≡_, ap, subst}
-use Prim.Native.Nat.{_+_, _-_, _*_, _^_, _<_}
+use mathlib.Core.Path.{subst}
+use Prim.Native.Nat.{_+_, _-_}
 use native.Mathlib.Omega.{arith}
 use lib.ListN.{length}
 use borrow.Author.Needs.{needs}

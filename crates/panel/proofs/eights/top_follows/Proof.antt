@@ -1,5 +1,5 @@
 -- Node 1 asks nothing. Of any other the middle two bits, its parent's bit and the edge neighbour's byte say it.
-use mathlib.Core.Path.{_≡_, sym, ap, _∙_, subst}
+use mathlib.Core.Path.{sym, ap, _∙_, subst}
 use mathlib.Core.Logic.{_≢_}
 use Prim.Native.Nat.{_/_}
 use native.Mathlib.Omega.{arith}

@@ -1,8 +1,7 @@
 -- The edge neighbour is none, or its bit says whether it is cut.
-use mathlib.Core.Path.{_≡_, sym, ap, _∙_, subst}
+use mathlib.Core.Path.{sym, ap, _∙_, subst}
 use native.Mathlib.Omega.{arith}
 use Rattle.nodes.specs.Depth.{depthOf}
-use Rattle.nodes.specs.Neighbours.{edge}
 use Rattle.nodes.specs.Table.{Says}
 use Rattle.nodes.proofs.Depths.{below-depth}
 use Rattle.nodes.proofs.Edges.{edge-depth}

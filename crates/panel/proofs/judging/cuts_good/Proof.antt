@@ -1,6 +1,5 @@
 -- The loop's invariant: the nodes that the set bits of each byte passed name may be cut. So at the end every cut node may be.
-use mathlib.Core.Path.{_≡_}
-use Prim.Native.Nat.{ℕ, _-_, _*_, _%_, _^_, _≤_, _<_}
+use Prim.Native.Nat.{ℕ, _-_, _<_}
 use native.Mathlib.Omega.{arith}
 use lib.ListN.{length}
 use lib.Pow.{pow-pos}
@@ -8,7 +7,7 @@ use borrow.Author.Count.{below-more}
 use Rattle.nodes.proofs.Depths.{pow-next}
 use Rattle.nodes.proofs.Tables.{says-yes, says-no}
 use Rattle.sums.specs.Words.{leafBit}
-use Rattle.sums.proofs.Rooms.{quarterOf, Quarter, quarter, bounds}
+use Rattle.sums.proofs.Rooms.{Quarter, quarter, bounds}
 use Rattle.cuts.proofs.Following.{follows-good}
 use Rattle.panel.specs.Judging.{ByteFollows}
 use Rattle.panel.proofs.LeafBytes.{good-byte, places-follow}

@@ -1,5 +1,5 @@
 -- Place 0 names no node, a place whose bit is not set no cut; of any other the test of the node that it names says it.
-use mathlib.Core.Path.{_≡_, refl, sym, ap, _∙_, subst}
+use mathlib.Core.Path.{refl, sym, ap, _∙_, subst}
 use native.Mathlib.Omega.{arith}
 use lib.Pow.{pow-mono}
 use borrow.Author.Needs.{needs}
