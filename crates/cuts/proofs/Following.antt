@@ -17,13 +17,10 @@ module _ {P : ℕ → Type 0} {n : ℕ} where
   pub first-follows : n < 2 → Follows P n
   first-follows h = record { up = λ l. absurd (omega arith); over = λ l. absurd (omega arith) }
 
-  pub border-follows : P (n / 2) → edge n ≡ 0 → Follows P n
-  border-follows p e = record { up = λ _. p; over = λ _ z. absurd (z e) }
-
-  pub says-follows : {r : Bool} → P (n / 2) → 2 ≤ n → edge n ≢ 0 → Says (P (edge n)) r → Says (Follows P n) r
-  says-follows p l z s = record {
-    yes = λ t. record { up = λ _. p; over = λ _ _. s .yes t };
-    no = λ t f. s .no t (f .over l z);
+  pub says-follows : {r : Bool} → P (n / 2) → 2 ≤ n → Says (edge n ≢ 0 → P (edge n)) r → Says (Follows P n) r
+  says-follows p l s = record {
+    yes = λ t. record { up = λ _. p; over = λ _. s .yes t };
+    no = λ t f. s .no t (f .over l);
   }
 
 module _ (D : ℕ) (f : ℕ → ℕ) where

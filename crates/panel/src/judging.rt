@@ -1,4 +1,5 @@
 // Judging a lent panel: its length, its words, its cuts.
+use crate::eights::byte_follows;
 use nodes::Answer;
 use nodes::Node;
 use nodes::Refusal;
@@ -12,7 +13,7 @@ ghost use Rattle.sums.specs.Words.{leafBit, Room};
 ghost use Rattle.cuts.specs.Cuts.{Cut, GoodCuts, named};
 ghost use Rattle.panel.specs.Calls.{Judged};
 ghost use Rattle.cuts.specs.Steps.{CutPlace, Follows, NodeOf};
-ghost use Rattle.panel.specs.Judging.{Deep};
+ghost use Rattle.panel.specs.Judging.{Deep, AcrossCut, PlaceFollows};
 
 // The depth of the panel by its length, or 0 where the length is wrong.
 pub fn depth_of(panel: &[u8]) -> usize
@@ -49,7 +50,7 @@ pub fn cut_place(deep: usize, n: Node) -> usize
 }
 
 // Whether node n, whose children stand `levels` above depth deep, is cut: whether the leaf bit that names it is set.
-fn is_cut_above(panel: &[u8], deep: usize, n: Node, levels: usize) -> bool
+pub fn is_cut_above(panel: &[u8], deep: usize, n: Node, levels: usize) -> bool
     requires { ⌜ Room deep (now panel) × (1 ≤ n .0) × (depthOf (n .0) + 1 + levels ≡ deep) ⌝ }
     ensures { λ r. ⌜ Says (Cut deep (leafBit deep (now (panel .entry))) (n .0)) r ⌝ }
 {
@@ -76,6 +77,18 @@ fn named_node(deep: usize, p: usize, t: u32) -> Node
     Node((((1usize << deep) + p) >> t) as u32 / 2)
 }
 
+// Whether the edge neighbour of n, whose children stand `levels` above depth deep, is none or is cut.
+pub fn across_cut(panel: &[u8], deep: usize, n: Node, levels: usize) -> bool
+    requires { ⌜ Room deep (now panel) × (2 ≤ n .0) × (depthOf (n .0) + 1 + levels ≡ deep) ⌝ }
+    ensures { λ r. ⌜ Says (AcrossCut (Cut deep (leafBit deep (now (panel .entry)))) (n .0)) r ⌝ }
+{
+    let e = nodes::edge_of(n);
+    if e == 0 {
+        return true;
+    }
+    is_cut_above(panel, deep, Node(e), levels)
+}
+
 // Whether n, whose children stand `levels` above depth deep, may be cut: its parent is, and its edge neighbour, where that is a node.
 fn may_be_cut(panel: &[u8], deep: usize, n: Node, levels: usize) -> bool
     requires { ⌜ Room deep (now panel) × (1 ≤ n .0) × (depthOf (n .0) + 1 + levels ≡ deep) ⌝ }
@@ -85,13 +98,24 @@ fn may_be_cut(panel: &[u8], deep: usize, n: Node, levels: usize) -> bool
         return true;
     }
     if is_cut_above(panel, deep, Node(n.0 / 2), levels + 1) {
-        let e = nodes::edge_of(n);
-        if e == 0 {
-            return true;
-        }
-        return is_cut_above(panel, deep, Node(e), levels);
+        return across_cut(panel, deep, n, levels);
     }
     false
+}
+
+// Whether the node that leaf bit p names, where p is not 0 and the bit is set, may be cut.
+pub fn place_follows(panel: &[u8], deep: usize, p: usize) -> bool
+    requires { ⌜ Room deep (now panel) × (p < 2 ^ deep) ⌝ }
+    ensures { λ r. ⌜ Says (PlaceFollows deep (leafBit deep (now (panel .entry))) p) r ⌝ }
+{
+    if p == 0 {
+        return true;
+    }
+    if sums::leaf_bit(panel, deep, p) == 1 {
+        let t = u32::trailing_zeros(p as u32);
+        return may_be_cut(panel, deep, named_node(deep, p, t), t as usize);
+    }
+    true
 }
 
 // Whether the cuts that the leaf bits name are good.
@@ -100,16 +124,14 @@ fn cuts_good(panel: &[u8], deep: usize) -> bool
     ensures { λ r. ⌜ Says (GoodCuts (Cut deep (leafBit deep (now (panel .entry))))) r ⌝ }
 {
     if is_cut(panel, deep, Node(1)) {
-        let end = 1usize << deep;
-        let mut p: usize = 1;
-        while p < end {
-            if sums::leaf_bit(panel, deep, p) == 1 {
-                let t = u32::trailing_zeros(p as u32);
-                if may_be_cut(panel, deep, named_node(deep, p, t), t as usize) {} else {
-                    return false;
-                }
+        let end = 1usize << (deep - 3);
+        let mut j: usize = 0;
+        while j < end {
+            if byte_follows(panel, deep, j) {
+                j += 1;
+            } else {
+                return false;
             }
-            p += 1;
         }
         return true;
     }

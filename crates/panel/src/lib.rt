@@ -1,5 +1,6 @@
 // Panels: what a panel means, and the calls on a lent one.
 pub mod judging; // the depth of a length, cuts, and the call `judge`
+pub mod eights; // judging eight leaf bits at a time
 pub mod opening; // the call `open`
 pub mod cutting; // cutting and taking back cuts in a judged panel
 pub mod descending; // from node 1 down to a leaf
