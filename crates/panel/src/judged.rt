@@ -36,7 +36,7 @@ pub fn leaf_at(panel: &[u8], deep: usize, i: LeafNumber) -> Node
     ensures { λ r. ⌜ LeafNumbered (now (panel .entry)) (i .0) (r .0) ⌝ }
 {
     let n = count(panel, deep);
-    Node(leaf_below(panel, deep, deep + 3, 1, n, i.0))
+    Node(leaf_below(&panel, deep, deep + 3, 1, n, i.0))
 }
 
 // Whether k is a node of a panel, by its depth.
@@ -61,7 +61,7 @@ pub fn leaf_toward(panel: &[u8], deep: usize, k: Node) -> Stop
     let first = k.0 << (deep - d);
     let n = count(panel, deep);
     let mut number = 0;
-    let node = leaf_over(panel, deep, deep + 3, n, 0, first, &mut number);
+    let node = leaf_over(&panel, deep, deep + 3, n, 0, first, &mut number);
     Stop {
         node: Node(node),
         number: LeafNumber(number),

@@ -16,14 +16,14 @@ add-leaf-below c = search needs
 
 leaf-below-requires : tie.Need-leaf-below-requires
 leaf-below-requires c κs =
-    let p = c .before .before .pre in
-    (p .0, root-spot _ (p .0) (p .1) (c .count .ensures), omega arith)
+    let p = c .before .before .before .pre in
+    (p .0, root-spot _ (p .0) (p .1) (c .before .count .ensures), omega arith)
 
 returns : tie.Need-returns
 returns c =
-    let a = c .before .before .before .args in
-    subst (λ x. LeafNumbered (a .panel .now) x (c .leaf-below .result))
-    (omega (arith, number-root (a .panel .now) (c .before .before .before .pre .0))) (c .leaf-below .ensures)
+    let a = c .before .before .before .before .args in
+    subst (λ x. LeafNumbered (a .t1 .now) x (c .leaf-below .result))
+    (omega (arith, number-root (a .t1 .now) (c .before .before .before .before .pre .0))) (c .leaf-below .ensures)
 
 pub leaf-at-spec : {M : Type 1} → statement M
 leaf-at-spec = tie.close (tie.spec count-requires add-leaf-below leaf-below-requires returns)

@@ -28,14 +28,14 @@ add-leaf-over c = search needs
 
 leaf-over-requires : tie.Need-leaf-over-requires
 leaf-over-requires c κs =
-    let p = c .before .before .before .before .before .pre in
-    let s = start-toward _ (p .0) _ (p .2) (p .1) (c .before .before .before .depth .ensures) refl (c .before .count .ensures) in
+    let p = c .before .before .before .before .before .before .pre in
+    let s = start-toward _ (p .0) _ (p .2) (p .1) (c .before .before .before .before .depth .ensures) refl (c .before .before .count .ensures) in
     (p .0, s .0, s .1)
 
 returns : tie.Need-returns
 returns c =
-    let p = c .before .before .before .before .before .before .pre in
-    stop-toward _ (p .0) _ (p .2) (p .1) (c .before .before .before .before .depth .ensures) refl (c .leaf-over .ensures)
+    let p = c .before .before .before .before .before .before .before .pre in
+    stop-toward _ (p .0) _ (p .2) (p .1) (c .before .before .before .before .before .depth .ensures) refl (c .leaf-over .ensures)
 
 pub leaf-toward-spec : {M : Type 1} → statement M
 leaf-toward-spec =
