@@ -1,7 +1,8 @@
--- One step down: the node's place says where its children's words start, and the aim stays below the node.
-use mathlib.Core.Path.{_≡_, sym, ap, ap₂, _∙_, subst, subst⁻¹}
+-- One step down: the node's place says where its children's words start, and the numbers picked are those of one child.
+use mathlib.Core.Path.{_≡_, refl, sym, ap, ap₂, _∙_, subst⁻¹}
+use mathlib.Core.Bool.{Bool, true, false}
 use mathlib.Core.List.{List}
-use Prim.Native.Nat.{ℕ, suc, _+_, _-_, _*_, _/_, _^_, _≤_, _<_}
+use Prim.Native.Nat.{ℕ, suc, _+_, _-_, _*_, _/_, _%_, _^_, _≤_, _<_}
 use native.Mathlib.Nat.{mul-add, mul-one, mul-assoc, one-mul}
 use native.Mathlib.Omega.{arith}
 use lib.ListN.{length}
@@ -9,40 +10,19 @@ use lib.Pow.{pow-mono, pow-pos}
 use Rattle.bits.specs.Bits.{field}
 use Rattle.bits.proofs.Laws.{field-lt}
 use Rattle.nodes.specs.Depth.{depthOf}
-use Rattle.nodes.proofs.Depths.{At, pow-next, at-root, at-from, ancestor, at-ancestor, depth-is, depth-left, depth-right, below-depth}
+use Rattle.nodes.proofs.Depths.{pow-next, at-root, depth-is, depth-left, depth-right, below-depth}
 use Rattle.sums.specs.Words.{width, word, leafBit, Room}
 use Rattle.sums.proofs.Slots.{from, wide, packed, in-panel}
-use Rattle.panel.specs.declared.descending.Aim.{Aim}
-use Rattle.panel.specs.declared.descending.Aim.the-variants.{Number, Below}
-use Rattle.panel.specs.Panels.{deepOf, CutOf, Good, LeafOf, leafCount}
-use Rattle.panel.specs.Descents.{Askable, Meets, Stopped, Spot, Heading, Leftward}
+use Rattle.panel.specs.Panels.{deepOf, CutOf, Good, LeafOf, numberIn, leafCount}
+use Rattle.panel.specs.Descents.{OnWay, Spot, Picked}
 use Rattle.panel.proofs.Lengths.{fits-bits, fits-room}
 use Rattle.cuts.proofs.Places.{cut-depth}
 use Rattle.cuts.proofs.Covering.{ancestor-is}
 use Rattle.cuts.proofs.Descent.{reached-left, reached-right}
 use Rattle.panel.proofs.GoodPanels.{good-bits, cut-word, reached-word, leaf-word-one, number-root, number-left, number-right}
 
--- ---- the aim
-
--- an ancestor's child on the way to n
-half : (n j : ℕ) → 1 ≤ j → n / 2 ^ j ≡ n / 2 ^ (j - 1) / 2
-half n j h =
-    ap (λ x. n / 2 ^ x) (let e : j ≡ suc (j - 1) = omega arith in e) ∙ sym (ancestor-is (suc (j - 1)) n) ∙ ap (λ x. x / 2) (ancestor-is (j - 1) n)
-
--- where the aim lies below a node, it lies below its left child ..
-pub heading-left : (left k w b l : ℕ) (aim : Aim) → 1 ≤ left → Heading left k w b aim → Leftward (left - 1) l b aim → Heading (left - 1) (2 * k) l b aim
-heading-left left k w b l (Number i) o h t = (h .0, t)
-heading-left left k w b l (Below n) o h t = omega (arith, half (n .0) left o)
-
--- .. or below its right child
-pub heading-right : (left k w b l : ℕ) (aim : Aim) → 1 ≤ left → l ≤ w → Heading left k w b aim → (Leftward (left - 1) l b aim → ⊥) → Heading (left - 1) (2 * k + 1) (w - l) (b + l) aim
-heading-right left k w b l (Number i) o m h t = (omega arith, omega arith)
-heading-right left k w b l (Below n) o m h t = omega (arith, half (n .0) left o)
-
--- ---- a node on the way
-
 -- where the words of a node's children stand
-pub record Children (s : List ℕ) (left p k w b : ℕ) : Type 0 where
+pub record Children (s : List ℕ) (left p k w : ℕ) : Type 0 where
   pub levels : 1 ≤ left
   pub most : left ≤ 14
   pub back : k ≤ p
@@ -50,11 +30,13 @@ pub record Children (s : List ℕ) (left p k w b : ℕ) : Type 0 where
   pub room : 2 * (p - k) + left ≤ 8 * length s
   pub few : 8 * length s ≤ 65536
   pub low : k < 32768
-  pub counts : b + w < 32768
+  pub counts : numberIn s k + w < 32768
   pub holds : field s (2 * (p - k)) left ≡ word (deepOf s) s (2 * k)
   pub sums : w ≡ word (deepOf s) s (2 * k) + word (deepOf s) s (2 * k + 1)
-  pub to-left : (l : ℕ) → l ≡ word (deepOf s) s (2 * k) → Spot s (left - 1) (2 * (p - k)) (2 * k) l b
-  pub to-right : (l : ℕ) → l ≡ word (deepOf s) s (2 * k) → Spot s (left - 1) (2 * (p - k) + left) (2 * k + 1) (w - l) (b + l)
+  pub to-left : Spot s (left - 1) (2 * (p - k)) (2 * k) (word (deepOf s) s (2 * k))
+  pub to-right : Spot s (left - 1) (2 * (p - k) + left) (2 * k + 1) (word (deepOf s) s (2 * k + 1))
+  pub number-left : numberIn s (2 * k) ≡ numberIn s k
+  pub number-right : numberIn s (2 * k + 1) ≡ numberIn s k + word (deepOf s) s (2 * k)
 
 module _ (s : List ℕ) (G : Good s) where
   count-lt : leafCount s < 32768
@@ -63,22 +45,15 @@ module _ (s : List ℕ) (G : Good s) where
       let d : depthOf 1 ≡ 0 = depth-is at-root in
       omega (arith, field-lt s (from (deepOf s) 1) (wide (deepOf s) 1), pow-mono {i = wide (deepOf s) 1} {j = 15} (omega (arith, G .fits .high)))
 
-  module _ (left p k w b : ℕ) (S : Spot s left p k w b) where
+  module _ (left p k w : ℕ) (S : Spot s left p k w) where
     under : k < 2 ^ (deepOf s + 1)
     under = below-depth k (deepOf s) (S .low) (omega (arith, S .levels))
 
-    stop-leaf : w < 2 → LeafOf s k
-    stop-leaf h =
+    -- a node that is reached and whose word is below 2 is a leaf
+    pub stop : w < 2 → LeafOf s k
+    stop h =
         leaf-word-one s G k (S .low) under (S .reached) .1
         (omega (arith, S .holds, reached-word s G k (S .low) under (S .reached)))
-
-    stop-meets : (aim : Aim) → w < 2 → Heading left k w b aim → Meets s aim k
-    stop-meets (Number i) h a = omega (arith, S .before)
-    stop-meets (Below n) h a = ap (λ x. n .0 / 2 ^ x) (let e : deepOf s - depthOf k ≡ left = omega (arith, S .levels) in e) ∙ a
-
-    -- a node that is reached and whose word is below 2 is the leaf aimed at
-    pub stop : (aim : Aim) → w < 2 → Heading left k w b aim → Stopped s aim k b
-    stop aim h a = record { leaf = stop-leaf h; number = S .before; met = stop-meets aim h a }
 
     module _ (h : 2 ≤ w) where
       cut : CutOf s k
@@ -112,7 +87,13 @@ module _ (s : List ℕ) (G : Good s) where
       total : w ≡ word (deepOf s) s (2 * k) + word (deepOf s) s (2 * k + 1)
       total = S .holds ∙ G .right .sums k (S .low) low
 
-      pub children : Children s left p k w b
+      as-left : numberIn s (2 * k) ≡ numberIn s k
+      as-left = number-left s G k (S .low) above
+
+      as-right : numberIn s (2 * k + 1) ≡ numberIn s k + word (deepOf s) s (2 * k)
+      as-right = number-right s G k (S .low) above
+
+      pub children : Children s left p k w
       unfolding word
       children =
           let size = fits-bits s (deepOf s) (G .fits) in record {
@@ -126,54 +107,94 @@ module _ (s : List ℕ) (G : Good s) where
             counts = omega (arith, S .within, count-lt);
             holds = ap₂ (field s) at-left (sym wide-left);
             sums = total;
-            to-left = λ l e. record {
+            to-left = record {
               low = omega (arith, S .low);
               levels = omega (arith, depth-left k (S .low), above, S .levels);
               place = at-left;
-              holds = e;
-              before = S .before ∙ sym (number-left s G k (S .low) above);
-              within = omega (arith, total, S .within);
+              holds = refl;
+              within = omega (arith, as-left, total, S .within);
               reached = reached-left (deepOf s) (leafBit (deepOf s) s) k cut;
             };
-            to-right = λ l e. record {
+            to-right = record {
               low = omega arith;
               levels = omega (arith, depth-right k (S .low), above, S .levels);
               place = at-right;
-              holds = omega (arith, total);
-              before = omega (arith, S .before, number-right s G k (S .low) above);
-              within = omega (arith, total, S .within);
+              holds = refl;
+              within = omega (arith, as-right, total, S .within);
               reached = reached-right (deepOf s) (leafBit (deepOf s) s) k cut;
             };
+            number-left = as-left;
+            number-right = as-right;
           }
 
-  -- ---- node 1, in a panel of depth D
+-- on the way to n it is that leaf
+pub stop-over : {s : List ℕ} {left p n w b : ℕ} → Good s → Spot s left p (n / 2 ^ left) w → b ≡ numberIn s (n / 2 ^ left) → w < 2 → OnWay s n (n / 2 ^ left) b
+stop-over {s} {left} {p} {n} {w} G S e h = record {
+  leaf = stop s G left p (n / 2 ^ left) w S h;
+  number = e;
+  over = ap (λ x. n / 2 ^ x) (let f : deepOf s - depthOf (n / 2 ^ left) ≡ left = omega (arith, S .levels) in f);
+}
 
-  module _ {D : ℕ} (deep : D ≡ deepOf s) where
-    pub good-room : Room D s
-    good-room = subst⁻¹ (λ x. Room x s) deep (fits-room s (deepOf s) (G .fits))
+-- ---- the numbers of one child, as they are picked
 
-    -- word 1 can be read
-    pub root-room : Room D s × (1 < 2 ^ (D + 1))
-    root-room = (good-room, omega (arith, pow-next D, pow-pos D))
+pub at-most : {c : Bool} {a b r : ℕ} (n : ℕ) → Picked c a b r → a ≤ n → b ≤ n → r ≤ n
+at-most {c = true} n t x y = omega (arith, t .yes refl)
+at-most {c = false} n t x y = omega (arith, t .no refl)
 
-    module _ (n : ℕ) (e : n ≡ word D s 1) where
-      counted : n ≡ leafCount s
-      counted = e ∙ ap (λ x. word x s 1) deep
+-- x, or more by what is picked
+pub more : {c : Bool} {b r : ℕ} (x : ℕ) → Picked c 0 b r → Picked c x (x + b) (x + r)
+more x t = record { yes = λ e. omega (arith, t .yes e); no = λ e. omega (arith, t .no e) }
 
-      pub root-spot : Spot s D (D + 3) 1 n 0
-      root-spot =
-          let d : depthOf 1 ≡ 0 = depth-is at-root in record {
-            low = omega arith;
-            levels = omega arith;
-            place = omega (arith, ap (λ x. 2 ^ (x + 1)) d, one-mul (width (deepOf s) (depthOf 1)));
-            holds = counted;
-            before = sym (number-root s G);
-            within = omega (arith, counted);
-            reached = λ h. absurd (omega arith);
-          }
+-- the child m, whose word v starts at bit q, and e leaves stand left of it below its parent
+pub record Chosen (s : List ℕ) (left k q m v e : ℕ) : Type 0 where
+  pub spot : Spot s (left - 1) q m v
+  pub number : numberIn s m ≡ numberIn s k + e
 
-      pub root-heading : (aim : Aim) → Askable s aim → Heading D 1 n 0 aim
-      root-heading (Number i) a = (omega arith, omega (arith, counted))
-      root-heading (Below m) a =
-          let r : At 0 (ancestor D (m .0)) = at-ancestor D 0 (subst (λ x. At x (m .0)) (let q : deepOf s ≡ 0 + D = omega arith in q) (at-from (a .0) (a .1))) in
-          omega (arith, ancestor-is D (m .0))
+-- a spot, told by equal numbers
+moved : {s : List ℕ} {left p k w q m v : ℕ} → q ≡ p → m ≡ k → v ≡ w → Spot s left p k w → Spot s left q m v
+moved {s} {left} {p} {k} {w} {q} {m} {v} a b e S = subst⁻¹ (λ x. Spot s left x m v) a (subst⁻¹ (λ x. Spot s left p x v) b (subst⁻¹ (λ x. Spot s left p k x) e S))
+
+pub chosen : {s : List ℕ} {left p k w l q m v e : ℕ} {c : Bool} → Children s left p k w → l ≡ word (deepOf s) s (2 * k) →
+    Picked c (2 * (p - k)) (2 * (p - k) + left) q → Picked c (2 * k) (2 * k + 1) m → Picked c l (w - l) v → Picked c 0 l e →
+    Chosen s left k q m v e
+chosen {s} {c = true} C h at node rest past = record {
+  spot = moved (at .yes refl) (node .yes refl) (rest .yes refl ∙ h) (C .to-left);
+  number = ap (numberIn s) (node .yes refl) ∙ omega (arith, C .number-left, past .yes refl);
+}
+chosen {s} {c = false} C h at node rest past = record {
+  spot = moved (at .no refl) (node .no refl) (omega (arith, rest .no refl, C .sums)) (C .to-right);
+  number = ap (numberIn s) (node .no refl) ∙ omega (arith, C .number-right, past .no refl);
+}
+
+-- of i leaves, those that are left to pass below the child
+pub fewer : {c : Bool} {w l i v e : ℕ} → (c ≡ true → i < l) → (c ≡ false → l ≤ i) → i < w → Picked c l (w - l) v → Picked c 0 l e → (e ≤ i) × (i - e < v)
+fewer {c = true} t f h rest past = (omega (arith, past .yes refl), omega (arith, t refl, rest .yes refl, past .yes refl))
+fewer {c = false} t f h rest past = (omega (arith, f refl, past .no refl), omega (arith, f refl, rest .no refl, past .no refl))
+
+-- the node on the way to n, one level down
+pub next : (n left : ℕ) (c : Bool) → 1 ≤ left → (c ≡ true → n / 2 ^ (left - 1) % 2 ≡ 0) → (c ≡ false → n / 2 ^ (left - 1) % 2 ≡ 0 → ⊥) →
+    Picked c (2 * (n / 2 ^ left)) (2 * (n / 2 ^ left) + 1) (n / 2 ^ (left - 1))
+next n left c o t f =
+    let half : n / 2 ^ left ≡ n / 2 ^ (left - 1) / 2 = ap (λ x. n / 2 ^ x) (let e : left ≡ suc (left - 1) = omega arith in e) ∙ sym (ancestor-is (suc (left - 1)) n) ∙ ap (λ x. x / 2) (ancestor-is (left - 1) n) in
+    record { yes = λ e. omega (arith, half, t e); no = λ e. omega (arith, half, f e) }
+
+-- ---- node 1, in a panel of depth D
+
+module _ (s : List ℕ) (G : Good s) {D : ℕ} (deep : D ≡ deepOf s) where
+  pub good-room : Room D s
+  good-room = subst⁻¹ (λ x. Room x s) deep (fits-room s (deepOf s) (G .fits))
+
+  -- word 1 can be read
+  pub root-room : Room D s × (1 < 2 ^ (D + 1))
+  root-room = (good-room, omega (arith, pow-next D, pow-pos D))
+
+  pub root-spot : {n : ℕ} → n ≡ leafCount s → Spot s D (D + 3) 1 n
+  root-spot e =
+      let d : depthOf 1 ≡ 0 = depth-is at-root in record {
+        low = omega arith;
+        levels = omega arith;
+        place = omega (arith, ap (λ x. 2 ^ (x + 1)) d, one-mul (width (deepOf s) (depthOf 1)));
+        holds = e;
+        within = omega (arith, number-root s G);
+        reached = λ h. absurd (omega arith);
+      }

@@ -7,15 +7,14 @@ use native.Mathlib.Omega.{arith}
 use lib.Pow.{pow-mono}
 use Rattle.nodes.specs.Depth.{depthOf}
 use Rattle.nodes.specs.Table.{Says}
-use Rattle.nodes.specs.declared.numbers.Node.{Node}
-use Rattle.nodes.proofs.Depths.{At, at-below, at-depth, depth-le}
-use Rattle.panel.specs.declared.descending.Aim.the-variants.{Below}
-use Rattle.panel.specs.Panels.{deepOf, Good, InRange, LeafOf}
-use Rattle.panel.specs.Descents.{Askable, Stopped, OnFirstWay, Ranged}
+use Rattle.nodes.proofs.Depths.{At, at-below, at-depth, depth-le, ancestor, at-ancestor}
+use Rattle.panel.specs.Panels.{deepOf, Good, InRange, LeafOf, numberIn, leafCount}
+use Rattle.panel.specs.Descents.{OnWay, OnFirstWay, Ranged, Spot}
 use Rattle.sums.proofs.Counts.{at-first}
 use Rattle.cuts.proofs.CutBits.{ancestor-first}
 use Rattle.cuts.proofs.Covering.{ancestor-is}
-use Rattle.panel.proofs.GoodPanels.{covers}
+use Rattle.panel.proofs.GoodPanels.{covers, number-root}
+use Rattle.panel.proofs.Downward.{root-spot}
 
 module _ (s : List ℕ) (G : Good s) (k : ℕ) (R : InRange s k) where
   deep : depthOf k ≤ deepOf s
@@ -50,13 +49,19 @@ module _ (s : List ℕ) (G : Good s) (k : ℕ) (R : InRange s k) where
         ap₂ (λ x y. k * 2 ^ (x - y) % 2 ^ 32) e f
         ∙ omega (arith, at-below node-at, pow-mono {i = deepOf s + 1} {j = 15} (omega (arith, G .fits .high)))
 
-    pub shift-askable : (n : Node) → n .0 ≡ k * 2 ^ (D - d) % 2 ^ 32 → Askable s (Below n)
-    shift-askable n h = (omega (arith, shifted, node-at), omega (arith, shifted, at-below node-at))
+    -- the way there starts at node 1
+    root : {n : ℕ} → n ≡ k * 2 ^ (D - d) % 2 ^ 32 → n / 2 ^ D ≡ 1
+    root {n} h =
+        let r : At 0 (ancestor D n) = at-ancestor D 0 (subst (λ x. At x n) (let q : deepOf s ≡ 0 + D = omega arith in q) (subst⁻¹ (At (deepOf s)) (h ∙ shifted) node-at)) in
+        omega (arith, ancestor-is D n)
 
-    pub stop-toward : (n : Node) (m i : ℕ) → n .0 ≡ k * 2 ^ (D - d) % 2 ^ 32 → Stopped s (Below n) m i → OnFirstWay s k m i
+    pub start-toward : {n w : ℕ} → n ≡ k * 2 ^ (D - d) % 2 ^ 32 → w ≡ leafCount s → Spot s D (D + 3) (n / 2 ^ D) w × (0 ≡ numberIn s (n / 2 ^ D))
+    start-toward {n} {w} h x = (subst⁻¹ (λ y. Spot s D (D + 3) y w) (root h) (root-spot s G e x), sym (ap (numberIn s) (root h) ∙ number-root s G))
+
+    pub stop-toward : {n m i : ℕ} → n ≡ k * 2 ^ (D - d) % 2 ^ 32 → OnWay s n m i → OnFirstWay s k m i
     unfolding node
-    stop-toward n m i h t =
-        let o = ap (λ x. x / 2 ^ (deepOf s - depthOf m)) (sym (h ∙ shifted)) ∙ t .met in
+    stop-toward {n} {m} h t =
+        let o = ap (λ x. x / 2 ^ (deepOf s - depthOf m)) (sym (h ∙ shifted)) ∙ t .over in
         record { leaf = t .leaf; number = t .number; over = o; own = own m (t .leaf) o }
 
 -- whether k is a node of the panel, by the panel's depth

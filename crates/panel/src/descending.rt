@@ -1,77 +1,60 @@
-// Going down from node 1 of a good panel to a leaf.
-use nodes::LeafNumber;
-use nodes::Node;
+// Going down from node 1 of a good panel to a leaf. Each step is the last thing that a call does and hands on plain numbers, the panel
+// behind one reference: the compiler makes a loop of it, which needs no stack.
 ghost use mathlib.Core.Path.{_≡_};
-ghost use Prim.Native.Nat.{_+_, _^_, _<_};
-ghost use Rattle.nodes.specs.Table.{Says};
-ghost use Rattle.panel.specs.Panels.{deepOf, Good};
-ghost use Rattle.panel.specs.Descents.{Askable, Heading, Leftward, Spot, Stopped};
+ghost use Prim.Native.Nat.{_+_, _/_, _^_, _<_};
+ghost use Rattle.panel.specs.Panels.{Good, numberIn};
+ghost use Rattle.panel.specs.Calls.{LeafNumbered};
+ghost use Rattle.panel.specs.Descents.{OnWay, Picked, Spot};
 
-// What a descent goes for: the leaf of a number, or the leaf that is or stands above a node of depth D.
-pub enum Aim {
-    Number(LeafNumber),
-    Below(Node),
-}
-
-// Where a descent stops: a leaf, and its number.
-pub struct Stop {
-    pub node: Node,
-    pub number: LeafNumber,
-}
-
-// Whether the aim lies below the left child, `left` levels above the last: `word` leaves stand there, and `before` left of them.
-fn leftward(aim: Aim, left: usize, word: u32, before: u32) -> bool
-    requires { ⌜ (left < 32) × (before + word < 2 ^ 32) ⌝ }
-    ensures { λ r. ⌜ Says (Leftward left word before aim) r ⌝ }
+// One of two numbers: a where c holds, else b. A step down picks each number of the child so: no jump to guess is left.
+fn pick(c: bool, a: u32, b: u32) -> u32
+    ensures { λ r. ⌜ Picked c a b r ⌝ }
 {
-    match aim {
-        Aim::Number(i) => i.0 < before + word,
-        Aim::Below(n) => (n.0 >> left) % 2 == 0,
-    }
+    if c { a } else { b }
 }
 
-// From a node whose word starts at bit `start`: `left` levels are left to the last, and `before` leaves stand left of it.
+// The leaf that has i leaves left of it below `node`, whose word starts at bit `start`; `left` levels are left to the last.
 // Only the left child's word is read: where it starts follows from the node's, and the right child's word is the rest.
-fn descend(
-    panel: &[u8],
-    left: usize,
-    start: usize,
-    node: u32,
-    word: u32,
-    before: u32,
-    aim: Aim,
-) -> Stop
-    requires { ⌜ Good (now panel) × Spot (now panel) left start node word before × Heading left node word before aim ⌝ }
-    ensures { λ r. ⌜ Stopped (now (panel .entry)) aim (r .node .0) (r .number .0) ⌝ }
+pub fn leaf_below(panel: &&[u8], left: usize, start: usize, node: u32, word: u32, i: u32) -> u32
+    requires { ⌜ Good (now (now panel)) × Spot (now (now panel)) left start node word × (i < word) ⌝ }
+    ensures { λ r. ⌜ LeafNumbered (now (now (panel .entry))) (numberIn (now (now (panel .entry))) node + i) r ⌝ }
 {
     if word < 2 {
-        return Stop {
-            node: Node(node),
-            number: LeafNumber(before),
-        };
+        return node;
     }
     let first = 2 * (start - node as usize);
-    let l = bits::get_field(panel, first, left);
-    if leftward(aim, left - 1, l, before) {
-        descend(panel, left - 1, first, 2 * node, l, before, aim)
-    } else {
-        descend(
-            panel,
-            left - 1,
-            first + left,
-            2 * node + 1,
-            word - l,
-            before + l,
-            aim,
-        )
-    }
+    let l = bits::get_field(*panel, first, left);
+    let in_left = i < l;
+    let at = first + pick(in_left, 0, left as u32) as usize;
+    let child = 2 * node + pick(in_left, 0, 1);
+    let leaves = pick(in_left, l, word - l);
+    let past = pick(in_left, 0, l);
+    leaf_below(panel, left - 1, at, child, leaves, i - past)
 }
 
-// The leaf aimed at, and its number.
-pub fn leaf_by(panel: &[u8], deep: usize, aim: Aim) -> Stop
-    requires { ⌜ Good (now panel) × (deep ≡ deepOf (now panel)) × Askable (now panel) aim ⌝ }
-    ensures { λ r. ⌜ Stopped (now (panel .entry)) aim (r .node .0) (r .number .0) ⌝ }
+// The leaf on the way to n, a node of depth D, and into `number` its number. The way has come to the node `left` levels above n,
+// whose own word starts at bit `start`, with `before` leaves left of it. It reads as `leaf_below` does.
+pub fn leaf_over(
+    panel: &&[u8],
+    left: usize,
+    start: usize,
+    own: u32,
+    before: u32,
+    n: u32,
+    number: &mut u32,
+) -> u32
+    requires { ⌜ Good (now (now panel)) × Spot (now (now panel)) left start (n / 2 ^ left) own × (before ≡ numberIn (now (now panel)) (n / 2 ^ left)) ⌝ }
+    ensures { λ r. ⌜ OnWay (now (now (panel .entry))) n r (now (number .exit)) ⌝ }
 {
-    let n = sums::get_word(panel, deep, 1);
-    descend(panel, deep, deep + 3, 1, n, 0, aim)
+    if own < 2 {
+        *number = before;
+        return n >> left;
+    }
+    let first = 2 * (start - (n >> left) as usize);
+    let l = bits::get_field(*panel, first, left);
+    let to_left = (n >> (left - 1)) % 2 == 0;
+    let at = first + pick(to_left, 0, left as u32) as usize;
+    let leaves = pick(to_left, l, own - l);
+    let past = pick(to_left, 0, l);
+    leaf_over(panel, left - 1, at, leaves, before + past, n, number)
 }

@@ -1,9 +1,8 @@
 // Reading and changing a panel that was judged good, `deep` its depth. These are no public calls: a caller judges first.
 use crate::cutting::merge_leaves;
 use crate::cutting::split_leaf;
-use crate::descending::Aim;
-use crate::descending::Stop;
-use crate::descending::leaf_by;
+use crate::descending::leaf_below;
+use crate::descending::leaf_over;
 use nodes::Answer;
 use nodes::LeafNumber;
 use nodes::Node;
@@ -17,6 +16,12 @@ ghost use Rattle.panel.specs.Panels.{deepOf, Good, InRange, LeafOf, leaf
 ghost use Rattle.panel.specs.Calls.{LeafNumbered, Split, Together, Merge};
 ghost use Rattle.panel.specs.Descents.{OnFirstWay, Ranged};
 
+// Where a descent stops: at a leaf, and its number.
+pub struct Stop {
+    pub node: Node,
+    pub number: LeafNumber,
+}
+
 // The leaf count: word 1.
 pub fn count(panel: &[u8], deep: usize) -> u32
     requires { ⌜ Good (now panel) × (deep ≡ deepOf (now panel)) ⌝ }
@@ -25,13 +30,13 @@ pub fn count(panel: &[u8], deep: usize) -> u32
     sums::get_word(panel, deep, 1)
 }
 
-// The leaf of number i, which is below the count.
+// The leaf of number i, which is below the count: that with i leaves left of it below node 1, whose word starts at bit D + 3.
 pub fn leaf_at(panel: &[u8], deep: usize, i: LeafNumber) -> Node
     requires { ⌜ Good (now panel) × (deep ≡ deepOf (now panel)) × (i .0 < leafCount (now panel)) ⌝ }
     ensures { λ r. ⌜ LeafNumbered (now (panel .entry)) (i .0) (r .0) ⌝ }
 {
-    let s = leaf_by(panel, deep, Aim::Number(i));
-    s.node
+    let n = count(panel, deep);
+    Node(leaf_below(&panel, deep, deep + 3, 1, n, i.0))
 }
 
 // Whether k is a node of a panel, by its depth.
@@ -54,7 +59,13 @@ pub fn leaf_toward(panel: &[u8], deep: usize, k: Node) -> Stop
 {
     let d = nodes::depth(k) as usize;
     let first = k.0 << (deep - d);
-    leaf_by(panel, deep, Aim::Below(Node(first)))
+    let n = count(panel, deep);
+    let mut number = 0;
+    let node = leaf_over(&panel, deep, deep + 3, n, 0, first, &mut number);
+    Stop {
+        node: Node(node),
+        number: LeafNumber(number),
+    }
 }
 
 // Whether k is a leaf.

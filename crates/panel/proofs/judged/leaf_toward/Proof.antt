@@ -1,6 +1,6 @@
 -- The shift finds the first node of depth D below k, and the descent the leaf on the way to it.
 use mathlib.Core.Path.{refl}
-use Rattle.panel.proofs.FirstWays.{shallow, shift-askable, stop-toward}
+use Rattle.panel.proofs.FirstWays.{shallow, start-toward, stop-toward}
 use borrow.Author.Needs.{needs}
 use Rattle.panel.proofs.judged.leaf_toward.Statement.{statement}
 use Rattle.panel.proofs.judged.leaf_toward.Tie as tie
@@ -20,16 +20,23 @@ cast-first c = search needs
 shl-first : tie.Need-shl-first
 shl-first c = search needs
 
-leaf-by-requires : tie.Need-leaf-by-requires
-leaf-by-requires c κs =
-    let p = c .before .before .before .pre in
-    (p .0, p .1, shift-askable _ (p .0) _ (p .2) (p .1) (c .before .depth .ensures) _ refl)
+count-requires : tie.Need-count-requires
+count-requires c κs = search needs
+
+add-leaf-over : tie.Need-add-leaf-over
+add-leaf-over c = search needs
+
+leaf-over-requires : tie.Need-leaf-over-requires
+leaf-over-requires c κs =
+    let p = c .before .before .before .before .before .before .pre in
+    let s = start-toward _ (p .0) _ (p .2) (p .1) (c .before .before .before .before .depth .ensures) refl (c .before .before .count .ensures) in
+    (p .0, s .0, s .1)
 
 returns : tie.Need-returns
 returns c =
-    let p = c .before .before .before .before .pre in
-    stop-toward _ (p .0) _ (p .2) (p .1) (c .before .before .depth .ensures) _ _ _ refl (c .leaf-by .ensures)
+    let p = c .before .before .before .before .before .before .before .pre in
+    stop-toward _ (p .0) _ (p .2) (p .1) (c .before .before .before .before .before .depth .ensures) refl (c .leaf-over .ensures)
 
 pub leaf-toward-spec : {M : Type 1} → statement M
 leaf-toward-spec =
-    tie.close (tie.spec depth-requires cast-d sub-first cast-first shl-first leaf-by-requires returns)
+    tie.close (tie.spec depth-requires cast-d sub-first cast-first shl-first count-requires add-leaf-over leaf-over-requires returns)

@@ -1,0 +1,29 @@
+-- No leaves stand left of node 1, so the leaf with i leaves left of it below node 1 has number i.
+use mathlib.Core.Path.{subst}
+use native.Mathlib.Omega.{arith}
+use borrow.Author.Needs.{needs}
+use Rattle.panel.specs.Calls.{LeafNumbered}
+use Rattle.panel.proofs.GoodPanels.{number-root}
+use Rattle.panel.proofs.Downward.{root-spot}
+use Rattle.panel.proofs.judged.leaf_at.Statement.{statement}
+use Rattle.panel.proofs.judged.leaf_at.Tie as tie
+
+count-requires : tie.Need-count-requires
+count-requires c κs = search needs
+
+add-leaf-below : tie.Need-add-leaf-below
+add-leaf-below c = search needs
+
+leaf-below-requires : tie.Need-leaf-below-requires
+leaf-below-requires c κs =
+    let p = c .before .before .before .pre in
+    (p .0, root-spot _ (p .0) (p .1) (c .before .count .ensures), omega arith)
+
+returns : tie.Need-returns
+returns c =
+    let a = c .before .before .before .before .args in
+    subst (λ x. LeafNumbered (a .t1 .now) x (c .leaf-below .result))
+    (omega (arith, number-root (a .t1 .now) (c .before .before .before .before .pre .0))) (c .leaf-below .ensures)
+
+pub leaf-at-spec : {M : Type 1} → statement M
+leaf-at-spec = tie.close (tie.spec count-requires add-leaf-below leaf-below-requires returns)
