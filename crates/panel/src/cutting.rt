@@ -1,6 +1,6 @@
 // Changing the cuts of a panel that was judged good, `deep` its depth.
-use crate::judging::cut_place;
-use crate::judging::is_cut;
+use crate::places::cut_place;
+use crate::places::is_cut;
 use nodes::Node;
 ghost use mathlib.Core.Path.{_≡_};
 ghost use Prim.Native.Nat.{_≤_, _<_};

@@ -1,8 +1,8 @@
 // Judging eight leaf bits at a time. The leaf byte below node q, three levels above depth D, names q in its bit 4, q's children in
 // bits 2 and 6, and theirs in bits 1, 3, 5 and 7. Its bit 0, but for that of the first byte, names a node higher up.
-use crate::judging::across_cut;
-use crate::judging::is_cut_above;
-use crate::judging::place_follows;
+use crate::places::across_cut;
+use crate::places::is_cut_above;
+use crate::places::place_follows;
 use nodes::Node;
 ghost use mathlib.Core.Path.{_≡_};
 ghost use Prim.Native.Nat.{_+_, _-_, _^_, _≤_, _<_};

@@ -1,6 +1,7 @@
 // Panels: what a panel means, and the calls on a lent one.
-pub mod judging; // the depth of a length, cuts, and the call `judge`
+pub mod places; // a cut and the leaf bit that names it
 pub mod eights; // judging eight leaf bits at a time
+pub mod judging; // the depth of a length, and the call `judge`
 pub mod opening; // the call `open`
 pub mod cutting; // cutting and taking back cuts in a judged panel
 pub mod descending; // from node 1 down to a leaf

@@ -10,8 +10,8 @@ use Rattle.sums.specs.Words.{leafBit}
 use Rattle.cuts.specs.Cuts.{Cut}
 use Rattle.cuts.specs.Steps.{Follows}
 use Rattle.panel.proofs.Naming.{Found, found}
-use Rattle.panel.proofs.judging.place_follows.Statement.{statement}
-use Rattle.panel.proofs.judging.place_follows.Tie as tie
+use Rattle.panel.proofs.places.place_follows.Statement.{statement}
+use Rattle.panel.proofs.places.place_follows.Tie as tie
 
 -- the node that the place names
 here : (c : tie.Then2) → let a = c .before .before .before .before .args in Found (a .deep) (a .p)

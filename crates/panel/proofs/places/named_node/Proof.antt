@@ -5,8 +5,8 @@ use native.Mathlib.Omega.{arith}
 use lib.Pow.{pow-mono}
 use borrow.Author.Needs.{needs}
 use Rattle.panel.proofs.Naming.{Found, found}
-use Rattle.panel.proofs.judging.named_node.Statement.{statement}
-use Rattle.panel.proofs.judging.named_node.Tie as tie
+use Rattle.panel.proofs.places.named_node.Statement.{statement}
+use Rattle.panel.proofs.places.named_node.Tie as tie
 
 here : (c : tie.Start) → Found (c .args .deep) (c .args .p)
 here c = found (c .args .deep) (c .args .p) (omega arith) (omega arith) (omega arith)

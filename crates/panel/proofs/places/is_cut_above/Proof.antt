@@ -2,8 +2,8 @@
 use native.Mathlib.Omega.{arith}
 use borrow.Author.Needs.{needs}
 use Rattle.panel.proofs.Naming.{says-cut}
-use Rattle.panel.proofs.judging.is_cut_above.Statement.{statement}
-use Rattle.panel.proofs.judging.is_cut_above.Tie as tie
+use Rattle.panel.proofs.places.is_cut_above.Statement.{statement}
+use Rattle.panel.proofs.places.is_cut_above.Tie as tie
 
 place-above-requires : tie.Need-place-above-requires
 place-above-requires c κs = search needs

@@ -5,8 +5,8 @@ use native.Mathlib.Omega.{arith}
 use borrow.Author.Needs.{needs}
 use Rattle.cuts.specs.Steps.{CutPlace}
 use Rattle.panel.proofs.Naming.{Placed, placed}
-use Rattle.panel.proofs.judging.place_above.Statement.{statement}
-use Rattle.panel.proofs.judging.place_above.Tie as tie
+use Rattle.panel.proofs.places.place_above.Statement.{statement}
+use Rattle.panel.proofs.places.place_above.Tie as tie
 
 here : (c : tie.After-struct-known) → let a = c .before .args in Placed (a .deep) (a .n .0) (a .levels)
 here c = let a = c .before .args in placed (a .deep) (a .n .0) (a .levels) (omega arith) (omega arith) (omega arith)

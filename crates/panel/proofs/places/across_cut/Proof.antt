@@ -8,8 +8,8 @@ use Rattle.nodes.proofs.Edges.{edge-depth}
 use Rattle.nodes.proofs.Tables.{says-yes}
 use Rattle.sums.specs.Words.{leafBit}
 use Rattle.cuts.specs.Cuts.{Cut}
-use Rattle.panel.proofs.judging.across_cut.Statement.{statement}
-use Rattle.panel.proofs.judging.across_cut.Tie as tie
+use Rattle.panel.proofs.places.across_cut.Statement.{statement}
+use Rattle.panel.proofs.places.across_cut.Tie as tie
 
 edge-of-requires : tie.Need-edge-of-requires
 edge-of-requires c κs =

@@ -4,8 +4,8 @@ use borrow.Author.Needs.{needs}
 use Rattle.nodes.proofs.Depths.{depth-half}
 use Rattle.nodes.proofs.Tables.{says-yes, says-no}
 use Rattle.cuts.proofs.Following.{first-follows, says-follows}
-use Rattle.panel.proofs.judging.may_be_cut.Statement.{statement}
-use Rattle.panel.proofs.judging.may_be_cut.Tie as tie
+use Rattle.panel.proofs.places.may_be_cut.Statement.{statement}
+use Rattle.panel.proofs.places.may_be_cut.Tie as tie
 
 returns : tie.Need-returns
 returns c = says-yes (first-follows (c .if1 .taken))

@@ -4,8 +4,8 @@ use borrow.Author.Needs.{needs}
 use Rattle.nodes.proofs.Depths.{depth-le}
 use Rattle.nodes.proofs.Tables.{says-no}
 use Rattle.cuts.proofs.Places.{cut-depth}
-use Rattle.panel.proofs.judging.is_cut.Statement.{statement}
-use Rattle.panel.proofs.judging.is_cut.Tie as tie
+use Rattle.panel.proofs.places.is_cut.Statement.{statement}
+use Rattle.panel.proofs.places.is_cut.Tie as tie
 
 depth-requires : tie.Need-depth-requires
 depth-requires c κs = search needs
