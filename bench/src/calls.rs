@@ -40,6 +40,7 @@ pub fn make(deep: u32, kind: Kind) {
         for k in &nodes {
             black_box(ours::leaf_toward(lent, deep, *k));
             black_box(ordinary::ordinary_number(bytes, deep, *k));
+            black_box(ordinary::ordinary_number_settled(bytes, deep, *k));
             black_box(ours::neighbours(*k));
             black_box(ours::edge(*k));
             black_box(ordinary::ordinary_neighbours(*k));
@@ -75,6 +76,9 @@ pub fn make(deep: u32, kind: Kind) {
     println!("making all sums (ordinary: by rows)|measure_make_sums|1|ordinary_sums_by_row|1|");
     println!("leaf by number|measure_leaf_at|{i}|ordinary_leaf|{i}|0.90");
     println!("number of leaf|measure_leaf_toward|{n}|ordinary_number|{n}|1.00");
+    println!(
+        "number of leaf (ordinary: settles the leaf too)|measure_leaf_toward|{n}|ordinary_number_settled|{n}|"
+    );
     println!("neighbours|node_neighbours|{n}|ordinary_neighbours|{n}|1.25");
     println!("corners|node_corners|{n}|ordinary_corners|{n}|1.25");
     println!("corners (ordinary: products of matrices)|node_corners|{n}|ordinary_corners_by_matrices|{n}|");

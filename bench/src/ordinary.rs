@@ -267,6 +267,23 @@ pub fn ordinary_number(bytes: &[u8], deep: u32, node: u32) -> u32 {
     number
 }
 
+/// The number of a leaf, and none where the node is no leaf: going down from node 1, as the scope document settles it.
+#[no_mangle]
+#[inline(never)]
+pub fn ordinary_number_settled(bytes: &[u8], deep: u32, node: u32) -> Option<u32> {
+    let mut levels = depth(node);
+    let (mut way, mut number) = (1, 0);
+    while levels > 0 && word(bytes, deep, way) > 1 {
+        levels -= 1;
+        way *= 2;
+        if (node >> levels) & 1 == 1 {
+            number += word(bytes, deep, way);
+            way += 1;
+        }
+    }
+    (levels == 0 && word(bytes, deep, way) == 1).then_some(number)
+}
+
 /// Algorithm 10: the number of leaves.
 pub fn count(bytes: &[u8], deep: u32) -> u32 {
     word(bytes, deep, 1)

@@ -126,11 +126,24 @@ fn leaves(long: Duration, panel: &Panel) -> Vec<Row> {
             |k| u64::from(ordinary::ordinary_number(bytes, deep, k)),
         ),
     };
+    let settled = |what, asked: Vec<u32>| Row {
+        what,
+        target: None,
+        times: each(
+            long,
+            what,
+            &often(asked),
+            |k| u64::from(ours::leaf_toward(lent, deep, k).1),
+            |k| ordinary::ordinary_number_settled(bytes, deep, k).map_or(0, u64::from),
+        ),
+    };
     vec![
         leaf("leaf by number, in turn", numbers.clone()),
         leaf("leaf by number, in no order", random.shuffled(numbers)),
         number("number of leaf, in turn", nodes.clone()),
-        number("number of leaf, in no order", random.shuffled(nodes)),
+        number("number of leaf, in no order", random.shuffled(nodes.clone())),
+        settled("number of leaf, in turn (ordinary: settles the leaf too)", nodes.clone()),
+        settled("number of leaf, in no order (ordinary: settles the leaf too)", random.shuffled(nodes)),
     ]
 }
 
