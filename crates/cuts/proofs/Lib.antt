@@ -3,6 +3,8 @@ pub mod CutBits
 pub mod NodeSums
 pub mod Places
 pub mod Following
+pub mod Naming
+pub mod LeafBytes
 pub mod Leaves
 pub mod Numbering
 pub mod Descent

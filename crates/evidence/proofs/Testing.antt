@@ -19,7 +19,7 @@ use Rattle.sums.specs.Sums.{SumsRight, Right}
 use Rattle.cuts.specs.Cuts.{Cut, GoodCuts, Leaf}
 use Rattle.panel.specs.Panels.{Fits, deepOf, RightLength, CutOf, Good}
 use Rattle.cuts.proofs.Places.{cutPlace, cut-low, cut-depth, cut-range, cut-set}
-use Rattle.panel.proofs.Naming.{placed}
+use Rattle.cuts.proofs.Naming.{placed}
 use Rattle.cuts.proofs.ForcedCuts.{Forced}
 use Rattle.evidence.proofs.Saying.{says-same, says-le, says-lt, imply, says-iff, says-and, says-or, says-imply, says-not, _and_, upTo, shows-all, Decided}
 

@@ -1,6 +1,6 @@
 // Changing the cuts of a panel that was judged good, `deep` its depth.
-use crate::places::cut_place;
-use crate::places::is_cut;
+use cuts::cut_place;
+use cuts::is_cut;
 use nodes::Node;
 ghost use mathlib.Core.Path.{_≡_};
 ghost use Prim.Native.Nat.{_≤_, _<_};

@@ -1,6 +1,4 @@
 // Judging a lent panel: its length, its words, its cuts.
-use crate::eights::byte_follows;
-use crate::places::is_cut;
 use nodes::Answer;
 use nodes::Node;
 use nodes::Refusal;
@@ -29,26 +27,6 @@ pub fn depth_of(panel: &[u8]) -> usize
     d + 1
 }
 
-// Whether the cuts that the leaf bits name are good.
-fn cuts_good(panel: &[u8], deep: usize) -> bool
-    requires { ⌜ Room deep (now panel) ⌝ }
-    ensures { λ r. ⌜ Says (GoodCuts (Cut deep (leafBit deep (now (panel .entry))))) r ⌝ }
-{
-    if is_cut(panel, deep, Node(1)) {
-        let end = 1usize << (deep - 3);
-        let mut j: usize = 0;
-        while j < end {
-            if byte_follows(panel, deep, j) {
-                j += 1;
-            } else {
-                return false;
-            }
-        }
-        return true;
-    }
-    false
-}
-
 // Whether the panel is good: 0, or refusal 1 or 2.
 pub fn judge(panel: &[u8]) -> Answer
     ensures { λ r. ⌜ Judged (now (panel .entry)) (answerNumber r) ⌝ }
@@ -59,7 +37,7 @@ pub fn judge(panel: &[u8]) -> Answer
     }
     if sums::all_right(panel, deep) {
         if sums::leaf_bit(panel, deep, 0) == 1 {
-            if cuts_good(panel, deep) {
+            if cuts::cuts_good(panel, deep) {
                 return Answer::Done;
             }
         }

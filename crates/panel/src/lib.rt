@@ -1,6 +1,4 @@
 // Panels: what a panel means, and the calls on a lent one.
-pub mod places; // a cut and the leaf bit that names it
-pub mod eights; // judging eight leaf bits at a time
 pub mod judging; // the depth of a length, and the call `judge`
 pub mod opening; // the call `open`
 pub mod cutting; // cutting and taking back cuts in a judged panel
