@@ -15,11 +15,11 @@ ghost use Rattle.cuts.specs.Cuts.{Cut, GoodCuts};
 ghost use Rattle.cuts.specs.Steps.{AcrossCut, CutByte, ParentsBeside, Mirrored, TopFollows, SevenFollow, ByteFollows};
 
 // The leaf byte below q.
-fn leaf_byte(panel: &[u8], deep: usize, q: Node) -> u32
-    requires { ⌜ Room deep (now panel) × (1 ≤ q .0) × (depthOf (q .0) + 3 ≡ deep) ⌝ }
-    ensures { λ r. ⌜ CutByte (Cut deep (leafBit deep (now (panel .entry)))) (q .0) r ⌝ }
+fn leaf_byte(bytes: &[u8], deep: usize, q: Node) -> u32
+    requires { ⌜ Room deep (now bytes) × (1 ≤ q .0) × (depthOf (q .0) + 3 ≡ deep) ⌝ }
+    ensures { λ r. ⌜ CutByte (Cut deep (leafBit deep (now (bytes .entry)))) (q .0) r ⌝ }
 {
-    bits::get_byte(panel, (1usize << (deep - 2)) + q.0 as usize)
+    bits::get_byte(bytes, (1usize << (deep - 2)) + q.0 as usize)
 }
 
 // Whether each cut that leaf byte b names, but for q's, has its parent's bit set beside it.
@@ -50,9 +50,9 @@ fn mirrored(b: u32, x: u32) -> bool
 
 // Whether q, which is cut, may be, and each cut child of its children has none or a cut node across its long side. Of these four the
 // middle two stand across from each other, the outer two across q's own long side. Below node 1 all four stand at the border.
-fn top_follows(panel: &[u8], deep: usize, q: Node, b: u32) -> bool
-    requires { ⌜ Room deep (now panel) × (1 ≤ q .0) × (depthOf (q .0) + 3 ≡ deep) × CutByte (Cut deep (leafBit deep (now panel))) (q .0) b × (digit b 4 ≡ 1) ⌝ }
-    ensures { λ r. ⌜ Says (TopFollows (Cut deep (leafBit deep (now (panel .entry)))) (q .0)) r ⌝ }
+fn top_follows(bytes: &[u8], deep: usize, q: Node, b: u32) -> bool
+    requires { ⌜ Room deep (now bytes) × (1 ≤ q .0) × (depthOf (q .0) + 3 ≡ deep) × CutByte (Cut deep (leafBit deep (now bytes))) (q .0) b × (digit b 4 ≡ 1) ⌝ }
+    ensures { λ r. ⌜ Says (TopFollows (Cut deep (leafBit deep (now (bytes .entry)))) (q .0)) r ⌝ }
 {
     if q.0 < 2 {
         return true;
@@ -60,40 +60,40 @@ fn top_follows(panel: &[u8], deep: usize, q: Node, b: u32) -> bool
     if b / 8 % 2 != b / 32 % 2 {
         return false;
     }
-    if is_cut_above(panel, deep, Node(q.0 / 2), 3) {
+    if is_cut_above(bytes, deep, Node(q.0 / 2), 3) {
         let e = nodes::edge_of(q);
         if e == 0 {
             return true;
         }
-        return mirrored(b, leaf_byte(panel, deep, Node(e)));
+        return mirrored(b, leaf_byte(bytes, deep, Node(e)));
     }
     false
 }
 
 // Whether n, a child of q whose bit is c, is not cut, or its edge neighbour is none or is cut.
-fn child_across(panel: &[u8], deep: usize, n: Node, c: u32) -> bool
-    requires { ⌜ Room deep (now panel) × (2 ≤ n .0) × (depthOf (n .0) + 2 ≡ deep) × (c < 2) ⌝ }
-    ensures { λ r. ⌜ Says (c ≡ 1 → AcrossCut (Cut deep (leafBit deep (now (panel .entry)))) (n .0)) r ⌝ }
+fn child_across(bytes: &[u8], deep: usize, n: Node, c: u32) -> bool
+    requires { ⌜ Room deep (now bytes) × (2 ≤ n .0) × (depthOf (n .0) + 2 ≡ deep) × (c < 2) ⌝ }
+    ensures { λ r. ⌜ Says (c ≡ 1 → AcrossCut (Cut deep (leafBit deep (now (bytes .entry)))) (n .0)) r ⌝ }
 {
     if c == 0 {
         return true;
     }
-    across_cut(panel, deep, n, 1)
+    across_cut(bytes, deep, n, 1)
 }
 
 // Whether q, its children and theirs, where they are cut, may be.
-fn seven_follow(panel: &[u8], deep: usize, q: Node) -> bool
-    requires { ⌜ Room deep (now panel) × (1 ≤ q .0) × (depthOf (q .0) + 3 ≡ deep) ⌝ }
-    ensures { λ r. ⌜ Says (SevenFollow (Cut deep (leafBit deep (now (panel .entry)))) (q .0)) r ⌝ }
+fn seven_follow(bytes: &[u8], deep: usize, q: Node) -> bool
+    requires { ⌜ Room deep (now bytes) × (1 ≤ q .0) × (depthOf (q .0) + 3 ≡ deep) ⌝ }
+    ensures { λ r. ⌜ Says (SevenFollow (Cut deep (leafBit deep (now (bytes .entry)))) (q .0)) r ⌝ }
 {
-    let b = leaf_byte(panel, deep, q);
+    let b = leaf_byte(bytes, deep, q);
     if b < 2 {
         return true;
     }
     if parents_beside(b) {
-        if top_follows(panel, deep, q, b) {
-            if child_across(panel, deep, Node(2 * q.0), b / 4 % 2) {
-                return child_across(panel, deep, Node(2 * q.0 + 1), b / 64 % 2);
+        if top_follows(bytes, deep, q, b) {
+            if child_across(bytes, deep, Node(2 * q.0), b / 4 % 2) {
+                return child_across(bytes, deep, Node(2 * q.0 + 1), b / 64 % 2);
             }
         }
     }
@@ -101,26 +101,26 @@ fn seven_follow(panel: &[u8], deep: usize, q: Node) -> bool
 }
 
 // Whether the nodes that the set bits of leaf byte j name may be cut.
-pub fn byte_follows(panel: &[u8], deep: usize, j: usize) -> bool
-    requires { ⌜ Room deep (now panel) × (j < 2 ^ (deep - 3)) ⌝ }
-    ensures { λ r. ⌜ Says (ByteFollows deep (leafBit deep (now (panel .entry))) j) r ⌝ }
+fn byte_follows(bytes: &[u8], deep: usize, j: usize) -> bool
+    requires { ⌜ Room deep (now bytes) × (j < 2 ^ (deep - 3)) ⌝ }
+    ensures { λ r. ⌜ Says (ByteFollows deep (leafBit deep (now (bytes .entry))) j) r ⌝ }
 {
-    if place_follows(panel, deep, 8 * j) {
-        return seven_follow(panel, deep, Node(((1usize << (deep - 3)) + j) as u32));
+    if place_follows(bytes, deep, 8 * j) {
+        return seven_follow(bytes, deep, Node(((1usize << (deep - 3)) + j) as u32));
     }
     false
 }
 
 // Whether the cuts that the leaf bits name are good.
-pub fn cuts_good(panel: &[u8], deep: usize) -> bool
-    requires { ⌜ Room deep (now panel) ⌝ }
-    ensures { λ r. ⌜ Says (GoodCuts (Cut deep (leafBit deep (now (panel .entry))))) r ⌝ }
+pub fn cuts_good(bytes: &[u8], deep: usize) -> bool
+    requires { ⌜ Room deep (now bytes) ⌝ }
+    ensures { λ r. ⌜ Says (GoodCuts (Cut deep (leafBit deep (now (bytes .entry))))) r ⌝ }
 {
-    if is_cut(panel, deep, Node(1)) {
+    if is_cut(bytes, deep, Node(1)) {
         let end = 1usize << (deep - 3);
         let mut j: usize = 0;
         while j < end {
-            if byte_follows(panel, deep, j) {
+            if byte_follows(bytes, deep, j) {
                 j += 1;
             } else {
                 return false;

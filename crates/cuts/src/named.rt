@@ -27,23 +27,23 @@ pub fn cut_place(deep: usize, n: Node) -> usize
 }
 
 // Whether node n, whose children stand `levels` above depth deep, is cut: whether the leaf bit that names it is set.
-pub fn is_cut_above(panel: &[u8], deep: usize, n: Node, levels: usize) -> bool
-    requires { ⌜ Room deep (now panel) × (1 ≤ n .0) × (depthOf (n .0) + 1 + levels ≡ deep) ⌝ }
-    ensures { λ r. ⌜ Says (Cut deep (leafBit deep (now (panel .entry))) (n .0)) r ⌝ }
+pub fn is_cut_above(bytes: &[u8], deep: usize, n: Node, levels: usize) -> bool
+    requires { ⌜ Room deep (now bytes) × (1 ≤ n .0) × (depthOf (n .0) + 1 + levels ≡ deep) ⌝ }
+    ensures { λ r. ⌜ Says (Cut deep (leafBit deep (now (bytes .entry))) (n .0)) r ⌝ }
 {
-    sums::leaf_bit(panel, deep, place_above(deep, n, levels)) == 1
+    sums::leaf_bit(bytes, deep, place_above(deep, n, levels)) == 1
 }
 
 // Whether node n is cut. No node of depth deep is.
-pub fn is_cut(panel: &[u8], deep: usize, n: Node) -> bool
-    requires { ⌜ Room deep (now panel) × NodeOf deep (n .0) ⌝ }
-    ensures { λ r. ⌜ Says (Cut deep (leafBit deep (now (panel .entry))) (n .0)) r ⌝ }
+pub fn is_cut(bytes: &[u8], deep: usize, n: Node) -> bool
+    requires { ⌜ Room deep (now bytes) × NodeOf deep (n .0) ⌝ }
+    ensures { λ r. ⌜ Says (Cut deep (leafBit deep (now (bytes .entry))) (n .0)) r ⌝ }
 {
     let d = nodes::depth(n) as usize;
     if d == deep {
         return false;
     }
-    is_cut_above(panel, deep, n, deep - 1 - d)
+    is_cut_above(bytes, deep, n, deep - 1 - d)
 }
 
 // The node that leaf bit p names: with t trailing zeros in p, (2^D + p) / 2^t is a right child, and this its parent.
@@ -55,42 +55,42 @@ fn named_node(deep: usize, p: usize, t: u32) -> Node
 }
 
 // Whether the edge neighbour of n, whose children stand `levels` above depth deep, is none or is cut.
-pub fn across_cut(panel: &[u8], deep: usize, n: Node, levels: usize) -> bool
-    requires { ⌜ Room deep (now panel) × (2 ≤ n .0) × (depthOf (n .0) + 1 + levels ≡ deep) ⌝ }
-    ensures { λ r. ⌜ Says (AcrossCut (Cut deep (leafBit deep (now (panel .entry)))) (n .0)) r ⌝ }
+pub fn across_cut(bytes: &[u8], deep: usize, n: Node, levels: usize) -> bool
+    requires { ⌜ Room deep (now bytes) × (2 ≤ n .0) × (depthOf (n .0) + 1 + levels ≡ deep) ⌝ }
+    ensures { λ r. ⌜ Says (AcrossCut (Cut deep (leafBit deep (now (bytes .entry)))) (n .0)) r ⌝ }
 {
     let e = nodes::edge_of(n);
     if e == 0 {
         return true;
     }
-    is_cut_above(panel, deep, Node(e), levels)
+    is_cut_above(bytes, deep, Node(e), levels)
 }
 
 // Whether n, whose children stand `levels` above depth deep, may be cut: its parent is, and its edge neighbour, where that is a node.
-fn may_be_cut(panel: &[u8], deep: usize, n: Node, levels: usize) -> bool
-    requires { ⌜ Room deep (now panel) × (1 ≤ n .0) × (depthOf (n .0) + 1 + levels ≡ deep) ⌝ }
-    ensures { λ r. ⌜ Says (Follows (Cut deep (leafBit deep (now (panel .entry)))) (n .0)) r ⌝ }
+fn may_be_cut(bytes: &[u8], deep: usize, n: Node, levels: usize) -> bool
+    requires { ⌜ Room deep (now bytes) × (1 ≤ n .0) × (depthOf (n .0) + 1 + levels ≡ deep) ⌝ }
+    ensures { λ r. ⌜ Says (Follows (Cut deep (leafBit deep (now (bytes .entry)))) (n .0)) r ⌝ }
 {
     if n.0 < 2 {
         return true;
     }
-    if is_cut_above(panel, deep, Node(n.0 / 2), levels + 1) {
-        return across_cut(panel, deep, n, levels);
+    if is_cut_above(bytes, deep, Node(n.0 / 2), levels + 1) {
+        return across_cut(bytes, deep, n, levels);
     }
     false
 }
 
 // Whether the node that leaf bit p names, where p is not 0 and the bit is set, may be cut.
-pub fn place_follows(panel: &[u8], deep: usize, p: usize) -> bool
-    requires { ⌜ Room deep (now panel) × (p < 2 ^ deep) ⌝ }
-    ensures { λ r. ⌜ Says (PlaceFollows deep (leafBit deep (now (panel .entry))) p) r ⌝ }
+pub fn place_follows(bytes: &[u8], deep: usize, p: usize) -> bool
+    requires { ⌜ Room deep (now bytes) × (p < 2 ^ deep) ⌝ }
+    ensures { λ r. ⌜ Says (PlaceFollows deep (leafBit deep (now (bytes .entry))) p) r ⌝ }
 {
     if p == 0 {
         return true;
     }
-    if sums::leaf_bit(panel, deep, p) == 1 {
+    if sums::leaf_bit(bytes, deep, p) == 1 {
         let t = u32::trailing_zeros(p as u32);
-        return may_be_cut(panel, deep, named_node(deep, p, t), t as usize);
+        return may_be_cut(bytes, deep, named_node(deep, p, t), t as usize);
     }
     true
 }

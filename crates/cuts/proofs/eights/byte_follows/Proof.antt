@@ -17,7 +17,7 @@ use Rattle.cuts.proofs.eights.byte_follows.Tie as tie
 deep : (c : tie.Start) → Bounds (c .args .deep)
 deep c = bounds (c .pre .0)
 
-here : (c : tie.Then1) → let a = c .before .before .before .args in Quarter (a .deep) (length (a .panel .now)) (quarterOf (a .deep))
+here : (c : tie.Then1) → let a = c .before .before .before .args in Quarter (a .deep) (length (a .bytes .now)) (quarterOf (a .deep))
 here c = quarter (c .before .before .before .pre .0)
 
 mul-place-follows : tie.Need-mul-place-follows
@@ -48,7 +48,7 @@ seven-follow-requires c κs =
 returns : tie.Need-returns
 returns c =
     let a = c .before .before .before .before .args in
-    let s = subst (λ m. Says (SevenFollow (Cut (a .deep) (leafBit (a .deep) (a .panel .now))) (m + a .j)) (c .seven-follow .result)) (here (c .before) .is) (c .seven-follow .ensures) in
+    let s = subst (λ m. Says (SevenFollow (Cut (a .deep) (leafBit (a .deep) (a .bytes .now))) (m + a .j)) (c .seven-follow .result)) (here (c .before) .is) (c .seven-follow .ensures) in
     record {
       yes = λ t. record { place = c .before .before .place-follows .ensures .yes (c .before .if1 .taken); seven = s .yes t };
       no = λ t b. s .no t (b .seven);

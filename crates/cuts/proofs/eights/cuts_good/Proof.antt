@@ -15,10 +15,10 @@ use Rattle.cuts.proofs.eights.cuts_good.Statement.{statement}
 use Rattle.cuts.proofs.eights.cuts_good.Tie as tie
 
 abbrev Inv-loop : tie.InvT-loop
-Inv-loop panel deep end j₀ j = Quarter deep (length panel) end × ((i : ℕ) → i < j → ByteFollows deep (leafBit deep panel) i)
+Inv-loop bytes deep end j₀ j = Quarter deep (length bytes) end × ((i : ℕ) → i < j → ByteFollows deep (leafBit deep bytes) i)
 
 abbrev μ-loop : tie.MeasureT-loop
-μ-loop panel deep end j₀ j = end - j
+μ-loop bytes deep end j₀ j = end - j
 
 is-cut-requires : tie.Need-is-cut-requires Inv-loop μ-loop
 is-cut-requires c κs =

@@ -12,7 +12,7 @@ use Rattle.cuts.proofs.LeafBytes.{Below, below, cut-byte}
 use Rattle.cuts.proofs.eights.leaf_byte.Statement.{statement}
 use Rattle.cuts.proofs.eights.leaf_byte.Tie as tie
 
-here : (c : tie.Start) → Below (c .args .deep) (c .args .q .0) (length (c .args .panel .now))
+here : (c : tie.Start) → Below (c .args .deep) (c .args .q .0) (length (c .args .bytes .now))
 here c = below (c .pre .0) (c .pre .1) (c .pre .2)
 
 sub-get-byte : tie.Need-sub-get-byte
@@ -34,8 +34,8 @@ returns : tie.Need-returns
 returns c =
     let a = c .before .before .before .args in
     let b = here (c .before .before .before) in
-    subst⁻¹ (CutByte (Cut (a .deep) (leafBit (a .deep) (a .panel .now))) (a .q .0)) (c .get-byte .ensures ∙ ap (λ x. field (a .panel .now) (8 * (x + a .q .0)) 8) (b .is))
-    (cut-byte (a .deep) _ (omega arith) (omega arith) (a .panel .now) (a .q .0) (b .at))
+    subst⁻¹ (CutByte (Cut (a .deep) (leafBit (a .deep) (a .bytes .now))) (a .q .0)) (c .get-byte .ensures ∙ ap (λ x. field (a .bytes .now) (8 * (x + a .q .0)) 8) (b .is))
+    (cut-byte (a .deep) _ (omega arith) (omega arith) (a .bytes .now) (a .q .0) (b .at))
 
 pub leaf-byte-spec : {M : Type 1} → statement M
 leaf-byte-spec =

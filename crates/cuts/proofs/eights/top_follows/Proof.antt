@@ -28,7 +28,7 @@ is-cut-above-requires c κs =
     (a .pre .0, omega arith, omega (arith, depth-half (a .args .q .0) (omega arith)))
 
 -- the parent is cut
-up : (c : tie.Then3) → let a = c .before .before .before .before .before .before .before .args in Cut (a .deep) (leafBit (a .deep) (a .panel .now)) (a .q .0 / 2)
+up : (c : tie.Then3) → let a = c .before .before .before .before .before .before .before .args in Cut (a .deep) (leafBit (a .deep) (a .bytes .now)) (a .q .0 / 2)
 up c = c .before .is-cut-above .ensures .yes (c .if3 .taken)
 
 edge-of-requires : tie.Need-edge-of-requires
@@ -58,7 +58,7 @@ returns-4 c =
     let a = b .before .before .before .before .before .before .before .before .before in
     let l = b .before .before .before .before .before .before .if1 .left in
     let m = c .mirrored .ensures in
-    let y = subst (λ n. CutByte (Cut (a .args .deep) (leafBit (a .args .deep) (a .args .panel .now))) n (c .before .leaf-byte .result)) (b .before .edge-of .ensures) (c .before .leaf-byte .ensures) in
+    let y = subst (λ n. CutByte (Cut (a .args .deep) (leafBit (a .args .deep) (a .args .bytes .now))) n (c .before .leaf-byte .result)) (b .before .edge-of .ensures) (c .before .leaf-byte .ensures) in
     record {
       yes = λ t. mirrored-top l (a .pre .3) (b .before .before .before .before .before .if2 .left) (up (b .before .before)) (some b) y (a .pre .4) (m .yes t);
       no = λ t f. m .no t (top-mirrored l (a .pre .3) f (some b) y);

@@ -29,7 +29,7 @@ returns-2 : tie.Need-returns-2
 returns-2 c =
     let a = c .before .before .before .before in
     let e = c .before .before .edge-of .ensures in
-    let s = subst (λ x. Says (Cut (a .args .deep) (leafBit (a .args .deep) (a .args .panel .now)) x) (c .is-cut-above .result)) e (c .is-cut-above .ensures) in
+    let s = subst (λ x. Says (Cut (a .args .deep) (leafBit (a .args .deep) (a .args .bytes .now)) x) (c .is-cut-above .result)) e (c .is-cut-above .ensures) in
     record { yes = λ t _. s .yes t; no = λ t p. s .no t (p (λ z. c .before .if1 .left (e ∙ z))) }
 
 pub across-cut-spec : {M : Type 1} → statement M

@@ -41,7 +41,7 @@ returns-2 : tie.Need-returns-2
 returns-2 c =
     let a = c .before .before .before .before .before .before .args in
     let b = c .before .before .before in
-    let s = subst (λ n. Says (Follows (Cut (a .deep) (leafBit (a .deep) (a .panel .now))) n) (c .may-be-cut .result)) (c .before .named-node .ensures) (c .may-be-cut .ensures) in
+    let s = subst (λ n. Says (Follows (Cut (a .deep) (leafBit (a .deep) (a .bytes .now))) n) (c .may-be-cut .result)) (c .before .named-node .ensures) (c .may-be-cut .ensures) in
     record { yes = λ t _ _. s .yes t; no = λ t p. s .no t (p (omega arith) (sym (b .leaf-bit .ensures) ∙ c .before .before .if2 .taken)) }
 
 returns-3 : tie.Need-returns-3
