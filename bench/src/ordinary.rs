@@ -147,16 +147,22 @@ pub fn ordinary_neighbours(node: u32) -> Around {
     around(node)
 }
 
+/// The same, each number handed over in memory, as a call from C hands them.
+#[no_mangle]
+#[inline(never)]
+pub fn ordinary_neighbours_in_memory(node: u32, left: &mut u32, right: &mut u32, edge: &mut u32) {
+    let n = around(node);
+    (*left, *right, *edge) = (n.left, n.right, n.edge);
+}
+
 /// Three points of two coordinates.
 pub type Triangle = [[u32; 2]; 3];
 
 const LOWER: Triangle = [[0, 256], [0, 0], [256, 0]];
 const UPPER: Triangle = [[256, 0], [256, 256], [0, 256]];
 
-/// Algorithm 5 with each matrix of formula 3 applied to the corners at once: the same points, without a product of matrices.
-#[no_mangle]
-#[inline(never)]
-pub fn ordinary_corners(node: u32) -> Triangle {
+#[inline(always)]
+fn points(node: u32) -> Triangle {
     let levels = depth(node) - 1;
     let [mut a, mut b, mut c] = if (node >> levels) & 1 == 0 { LOWER } else { UPPER };
     for level in (0..levels).rev() {
@@ -169,6 +175,28 @@ pub fn ordinary_corners(node: u32) -> Triangle {
         b = middle;
     }
     [a, b, c]
+}
+
+/// Algorithm 5 with each matrix of formula 3 applied to the corners at once: the same points, without a product of matrices.
+#[no_mangle]
+#[inline(never)]
+pub fn ordinary_corners(node: u32) -> Triangle {
+    points(node)
+}
+
+/// The same, each number handed over in memory, as a call from C hands them.
+#[no_mangle]
+#[inline(never)]
+pub fn ordinary_corners_in_memory(
+    node: u32,
+    ax: &mut u32,
+    ay: &mut u32,
+    bx: &mut u32,
+    by: &mut u32,
+    cx: &mut u32,
+    cy: &mut u32,
+) {
+    [[*ax, *ay], [*bx, *by], [*cx, *cy]] = points(node);
 }
 
 type Matrix = [[f32; 3]; 3];

@@ -171,6 +171,18 @@ fn nodes(long: Duration, panel: &Panel) -> Vec<Row> {
             |k| points(ordinary::ordinary_corners(k)),
         ),
     };
+    let neighbours_in_memory = |k| {
+        let [mut left, mut right, mut edge] = [0; 3];
+        ordinary::ordinary_neighbours_in_memory(k, &mut left, &mut right, &mut edge);
+        around([left, right, edge])
+    };
+    let corners_in_memory = |k| {
+        let [[mut ax, mut ay], [mut bx, mut by], [mut cx, mut cy]] = [[0; 2]; 3];
+        ordinary::ordinary_corners_in_memory(k, &mut ax, &mut ay, &mut bx, &mut by, &mut cx, &mut cy);
+        points([[ax, ay], [bx, by], [cx, cy]])
+    };
+    let what_neighbours = "neighbours, in no order (ordinary: handed over in memory)";
+    let what_corners = "corners, in no order (ordinary: handed over in memory)";
     let by_matrices = |k| points(ordinary::ordinary_corners_by_matrices(k));
     let edge = |k| u64::from(ordinary::ordinary_neighbours(k).edge);
     let what_matrices = "corners, in no order (ordinary: products of matrices)";
@@ -178,8 +190,18 @@ fn nodes(long: Duration, panel: &Panel) -> Vec<Row> {
     vec![
         neighbours("neighbours, in turn", &in_turn),
         neighbours("neighbours, in no order", &mixed),
+        Row {
+            what: what_neighbours,
+            target: None,
+            times: each(long, what_neighbours, &mixed, |k| around(ours::neighbours(k)), neighbours_in_memory),
+        },
         corners("corners, in turn", &in_turn),
         corners("corners, in no order", &mixed),
+        Row {
+            what: what_corners,
+            target: None,
+            times: each(long, what_corners, &mixed, |k| points(ours::corners(k)), corners_in_memory),
+        },
         Row {
             what: what_matrices,
             target: None,
