@@ -1,10 +1,17 @@
-//! Links the proved archives, which `rt staticlib measures` and `rt staticlib exports` write.
+//! Links the proved archives, which `rt staticlib measures` and `rt staticlib exports` write, and the ordinary version in C, which
+//! it compiles.
 
-use std::path::Path;
+use std::path::{Path, PathBuf};
+use std::process::Command;
+
+fn run(command: &mut Command) {
+    let status = command.status().unwrap_or_else(|error| panic!("{command:?}: {error}"));
+    assert!(status.success(), "{command:?}: {status}");
+}
 
 fn main() {
-    let here = std::env::var("CARGO_MANIFEST_DIR").expect("cargo sets it");
-    let folder = Path::new(&here).join("../target/staticlib");
+    let here = PathBuf::from(std::env::var("CARGO_MANIFEST_DIR").expect("cargo sets it"));
+    let folder = here.join("../target/staticlib");
     println!("cargo:rustc-link-search=native={}", folder.display());
     for name in ["measures", "exports"] {
         let archive = folder.join(format!("lib{name}.a"));
@@ -16,4 +23,18 @@ fn main() {
         }
         println!("cargo:rustc-link-lib=static={name}");
     }
+    compiled_c(&here.join("c/ordinary.c"));
+}
+
+/// Compiles a file of C as one does for speed, and links it.
+fn compiled_c(source: &Path) {
+    let out = PathBuf::from(std::env::var("OUT_DIR").expect("cargo sets it"));
+    let (object, archive) = (out.join("ordinary.o"), out.join("libordinary_c.a"));
+    let compiler = std::env::var("CC").unwrap_or_else(|_| "cc".into());
+    let flags = ["-std=c99", "-Wall", "-Wextra", "-Werror", "-O3", "-fPIC", "-c"];
+    run(Command::new(compiler).args(flags).arg(source).arg("-o").arg(&object));
+    run(Command::new("ar").arg("crs").arg(&archive).arg(&object));
+    println!("cargo:rerun-if-changed={}", source.display());
+    println!("cargo:rustc-link-search=native={}", out.display());
+    println!("cargo:rustc-link-lib=static=ordinary_c");
 }

@@ -77,12 +77,12 @@ pub fn make(deep: u32, kind: Kind) {
     println!("leaf by number|measure_leaf_at|{i}|ordinary_leaf|{i}|0.90");
     println!("number of leaf|measure_leaf_toward|{n}|ordinary_number|{n}|1.00");
     println!(
-        "number of leaf (ordinary: settles the leaf too)|measure_leaf_toward|{n}|ordinary_number_settled|{n}|"
+        "number of leaf (ordinary: settles that it is one)|measure_leaf_toward|{n}|ordinary_number_settled|{n}|"
     );
     println!("neighbours|node_neighbours|{n}|ordinary_neighbours|{n}|1.25");
     println!("corners|node_corners|{n}|ordinary_corners|{n}|1.25");
     println!("corners (ordinary: products of matrices)|node_corners|{n}|ordinary_corners_by_matrices|{n}|");
-    println!("edge neighbour alone|measure_edge|{n}|ordinary_neighbours|{n}|");
+    println!("edge neighbour alone (ordinary: all three)|measure_edge|{n}|ordinary_neighbours|{n}|");
     for (what, symbol, asked) in [("split", "split", &split), ("merge", "merge", &merge)] {
         if !asked.is_empty() {
             let n = asked.len();

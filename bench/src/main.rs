@@ -1,6 +1,6 @@
-//! Measures the proved calls beside an ordinary Rust version of the paper's algorithms. `bench/run` builds and runs all of it.
+//! Measures the proved calls beside ordinary Rust and C versions of the paper's algorithms. `bench/run` builds and runs all of it.
 //!
-//!     bench ratios [--quick]    the table of times and ratios; both sides are checked to compute the same
+//!     bench ratios [--quick]    the tables of times and ratios; both sides are checked to compute the same
 //!     bench growth [--quick]    judging and making sums, in nanoseconds a byte, from depth 6 to 14
 //!     bench scanner [--quick]   the scanner on 4,096 records beside two other programs
 //!     bench calls KIND DEPTH    the calls whose instructions bench/counts counts; KIND is fresh, adaptive or full
@@ -9,6 +9,7 @@
 
 mod calls;
 mod growth;
+mod others;
 mod ratios;
 mod rows;
 mod scanner;

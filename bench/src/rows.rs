@@ -2,9 +2,10 @@
 
 use std::time::Duration;
 
-use bench::ordinary::{self, Triangle};
+use bench::ordinary::Triangle;
 use bench::ours;
 use bench::panels::{Kind, Panel, Random};
+use bench::sides::Ordinary;
 use bench::timing::{least, Times};
 
 /// A row of the table for one panel: what it is, the ratio to reach, and the times where the panel has such a call.
@@ -20,13 +21,13 @@ const LEAVES: usize = 8;
 const CALLS: usize = 512;
 
 /// Leaf numbers or nodes to ask for, often enough.
-fn often(items: Vec<u32>) -> Vec<u32> {
+pub fn often(items: Vec<u32>) -> Vec<u32> {
     let times = CALLS.div_ceil(items.len());
     items.repeat(times)
 }
 
 /// A call on each number, by both sides.
-fn each(
+pub fn each(
     long: Duration,
     what: &str,
     asked: &[u32],
@@ -47,33 +48,30 @@ fn each(
     Some(least(&mut (), asked.len(), long, |_| {}, run_ours, run_ordinary))
 }
 
-fn around(n: [u32; 3]) -> u64 {
+pub fn around(n: [u32; 3]) -> u64 {
     u64::from(n[0]) + (u64::from(n[1]) << 16) + (u64::from(n[2]) << 32)
 }
 
-fn points(t: Triangle) -> u64 {
+pub fn points(t: Triangle) -> u64 {
     t.iter().flatten().fold(0, |sum, x| sum * 512 + u64::from(*x))
 }
 
 /// Making, testing and judging, each beside making all sums in the ordinary way.
-fn sums(long: Duration, panel: &Panel) -> Vec<Row> {
+fn sums<S: Ordinary>(long: Duration, panel: &Panel) -> Vec<Row> {
     let deep = panel.deep;
     let mut one = panel.clone();
     let leaf_bits = 3 * one.lent().len() / 4;
     one.bytes[4..leaf_bits].fill(0);
     let mut other = one.clone();
     ours::make_sums(one.lent_mut(), deep);
-    ordinary::ordinary_sums(&mut other.bytes, deep);
+    S::sums(&mut other.bytes, deep);
     assert!(one.bytes == panel.bytes && other.bytes == panel.bytes, "both make the same sums");
-    ordinary::ordinary_sums_by_row(&mut other.bytes, deep);
-    assert!(other.bytes == panel.bytes, "so does the ordinary version by rows");
 
     let work = &mut panel.clone();
-    let made = |p: &mut Panel| ordinary::ordinary_sums(&mut p.bytes, deep);
+    let made = |p: &mut Panel| S::sums(&mut p.bytes, deep);
     let test = |p: &mut Panel| assert!(ours::all_right(p.lent(), deep));
     let judge = |p: &mut Panel| assert_eq!(ours::judge(p.lent()), 0);
     let make = |p: &mut Panel| ours::make_sums(p.lent_mut(), deep);
-    let by_row = |p: &mut Panel| ordinary::ordinary_sums_by_row(&mut p.bytes, deep);
     vec![
         Row {
             what: "testing all sums (beside making them)",
@@ -90,16 +88,11 @@ fn sums(long: Duration, panel: &Panel) -> Vec<Row> {
             target: Some(0.6),
             times: Some(least(work, 1, long, |_| {}, make, made)),
         },
-        Row {
-            what: "making all sums (ordinary: by rows)",
-            target: None,
-            times: Some(least(work, 1, long, |_| {}, make, by_row)),
-        },
     ]
 }
 
 /// Leaf by number and number of leaf, in turn and in no order.
-fn leaves(long: Duration, panel: &Panel) -> Vec<Row> {
+fn leaves<S: Ordinary>(long: Duration, panel: &Panel) -> Vec<Row> {
     let (deep, lent, bytes) = (panel.deep, panel.lent(), &panel.bytes[..]);
     let nodes = panel.leaves();
     let numbers: Vec<u32> = (0..nodes.len() as u32).collect();
@@ -112,7 +105,7 @@ fn leaves(long: Duration, panel: &Panel) -> Vec<Row> {
             what,
             &often(asked),
             |i| u64::from(ours::leaf(lent, deep, i)),
-            |i| u64::from(ordinary::ordinary_leaf(bytes, deep, i)),
+            |i| u64::from(S::leaf(bytes, deep, i)),
         ),
     };
     let number = |what, asked: Vec<u32>| Row {
@@ -123,36 +116,23 @@ fn leaves(long: Duration, panel: &Panel) -> Vec<Row> {
             what,
             &often(asked),
             |k| u64::from(ours::leaf_toward(lent, deep, k).1),
-            |k| u64::from(ordinary::ordinary_number(bytes, deep, k)),
-        ),
-    };
-    let settled = |what, asked: Vec<u32>| Row {
-        what,
-        target: None,
-        times: each(
-            long,
-            what,
-            &often(asked),
-            |k| u64::from(ours::leaf_toward(lent, deep, k).1),
-            |k| ordinary::ordinary_number_settled(bytes, deep, k).map_or(0, u64::from),
+            |k| u64::from(S::number(bytes, deep, k)),
         ),
     };
     vec![
         leaf("leaf by number, in turn", numbers.clone()),
         leaf("leaf by number, in no order", random.shuffled(numbers)),
         number("number of leaf, in turn", nodes.clone()),
-        number("number of leaf, in no order", random.shuffled(nodes.clone())),
-        settled("number of leaf, in turn (ordinary: settles the leaf too)", nodes.clone()),
-        settled("number of leaf, in no order (ordinary: settles the leaf too)", random.shuffled(nodes)),
+        number("number of leaf, in no order", random.shuffled(nodes)),
     ]
 }
 
 /// Neighbours and corners of the panel's leaves, in turn and in no order.
-fn nodes(long: Duration, panel: &Panel) -> Vec<Row> {
+fn nodes<S: Ordinary>(long: Duration, panel: &Panel) -> Vec<Row> {
     let in_turn = often(panel.leaves());
     let mixed = often(Random(2).shuffled(panel.leaves()));
     let theirs = |k| {
-        let n = ordinary::ordinary_neighbours(k);
+        let n = S::neighbours(k);
         around([n.left, n.right, n.edge])
     };
     let neighbours = |what, asked: &[u32]| Row {
@@ -163,60 +143,18 @@ fn nodes(long: Duration, panel: &Panel) -> Vec<Row> {
     let corners = |what, asked: &[u32]| Row {
         what,
         target: Some(1.25),
-        times: each(
-            long,
-            what,
-            asked,
-            |k| points(ours::corners(k)),
-            |k| points(ordinary::ordinary_corners(k)),
-        ),
+        times: each(long, what, asked, |k| points(ours::corners(k)), |k| points(S::corners(k))),
     };
-    let neighbours_in_memory = |k| {
-        let [mut left, mut right, mut edge] = [0; 3];
-        ordinary::ordinary_neighbours_in_memory(k, &mut left, &mut right, &mut edge);
-        around([left, right, edge])
-    };
-    let corners_in_memory = |k| {
-        let [[mut ax, mut ay], [mut bx, mut by], [mut cx, mut cy]] = [[0; 2]; 3];
-        ordinary::ordinary_corners_in_memory(k, &mut ax, &mut ay, &mut bx, &mut by, &mut cx, &mut cy);
-        points([[ax, ay], [bx, by], [cx, cy]])
-    };
-    let what_neighbours = "neighbours, in no order (ordinary: handed over in memory)";
-    let what_corners = "corners, in no order (ordinary: handed over in memory)";
-    let by_matrices = |k| points(ordinary::ordinary_corners_by_matrices(k));
-    let edge = |k| u64::from(ordinary::ordinary_neighbours(k).edge);
-    let what_matrices = "corners, in no order (ordinary: products of matrices)";
-    let what_edge = "edge neighbour alone, in no order";
     vec![
         neighbours("neighbours, in turn", &in_turn),
         neighbours("neighbours, in no order", &mixed),
-        Row {
-            what: what_neighbours,
-            target: None,
-            times: each(long, what_neighbours, &mixed, |k| around(ours::neighbours(k)), neighbours_in_memory),
-        },
         corners("corners, in turn", &in_turn),
         corners("corners, in no order", &mixed),
-        Row {
-            what: what_corners,
-            target: None,
-            times: each(long, what_corners, &mixed, |k| points(ours::corners(k)), corners_in_memory),
-        },
-        Row {
-            what: what_matrices,
-            target: None,
-            times: each(long, what_matrices, &mixed, |k| points(ours::corners(k)), by_matrices),
-        },
-        Row {
-            what: what_edge,
-            target: None,
-            times: each(long, what_edge, &mixed, |k| u64::from(ours::edge(k)), edge),
-        },
     ]
 }
 
 type Ours = fn(&mut [u8], u32, u32) -> u32;
-type Ordinary = fn(&mut [u8], u32, u32);
+type Theirs = fn(&mut [u8], u32, u32);
 
 /// A split or a merge of several leaves, each from the same panel.
 fn change(
@@ -225,7 +163,7 @@ fn change(
     start: &Panel,
     asked: &[u32],
     ours: Ours,
-    ordinary: Ordinary,
+    ordinary: Theirs,
 ) -> Row {
     let deep = start.deep;
     let one_leaf = |k: &u32| {
@@ -254,20 +192,13 @@ pub fn to_split(panel: &Panel) -> Panel {
     start
 }
 
-fn changes(long: Duration, panel: &Panel) -> Vec<Row> {
+fn changes<S: Ordinary>(long: Duration, panel: &Panel) -> Vec<Row> {
     let cuttable = to_split(panel);
     let asked = cuttable.some_leaves(LEAVES, ours::split);
     let asked = if asked.is_empty() { all_that(&cuttable, ours::split) } else { asked };
     vec![
-        change(long, "a judged split", &cuttable, &asked, ours::split, ordinary::ordinary_split),
-        change(
-            long,
-            "a judged merge",
-            panel,
-            &panel.some_leaves(LEAVES, ours::merge),
-            ours::merge,
-            ordinary::ordinary_merge,
-        ),
+        change(long, "a judged split", &cuttable, &asked, ours::split, S::split),
+        change(long, "a judged merge", panel, &panel.some_leaves(LEAVES, ours::merge), ours::merge, S::merge),
     ]
 }
 
@@ -276,12 +207,12 @@ pub fn all_that(panel: &Panel, call: Ours) -> Vec<u32> {
     panel.leaves().into_iter().filter(|k| call(panel.clone().lent_mut(), panel.deep, *k) == 0).collect()
 }
 
-/// All rows of a panel.
-pub fn all(long: Duration, deep: u32, kind: Kind) -> Vec<Row> {
+/// All rows of a panel, beside one ordinary version.
+pub fn all<S: Ordinary>(long: Duration, deep: u32, kind: Kind) -> Vec<Row> {
     let panel = Panel::new(deep, kind);
-    let mut rows = sums(long, &panel);
-    rows.extend(leaves(long, &panel));
-    rows.extend(nodes(long, &panel));
-    rows.extend(changes(long, &panel));
+    let mut rows = sums::<S>(long, &panel);
+    rows.extend(leaves::<S>(long, &panel));
+    rows.extend(nodes::<S>(long, &panel));
+    rows.extend(changes::<S>(long, &panel));
     rows
 }

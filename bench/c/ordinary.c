@@ -1,0 +1,149 @@
+/* The paper's algorithms (document 001) as one writes them in C for speed: every word is read through one 64-bit window, the panel
+   and the numbers are trusted, nothing is checked. The bytes have eight more behind the panel's last, for the window. */
+#include <stddef.h>
+#include <stdint.h>
+#include <string.h>
+
+static inline uint32_t depth(uint32_t node) { return 31 - (uint32_t)__builtin_clz(node); }
+
+/* Where a word starts and how many bits it has (section 3.3). */
+static inline size_t place(uint32_t deep, uint32_t node, uint32_t *bits) {
+    uint32_t d = depth(node);
+    *bits = deep - d + 1;
+    return ((size_t)2 << d) + (size_t)node * *bits;
+}
+
+static inline uint64_t window(const uint8_t *at) {
+    uint64_t x;
+    memcpy(&x, at, sizeof x);
+    return x;
+}
+
+static inline uint32_t word(const uint8_t *bytes, uint32_t deep, uint32_t node) {
+    uint32_t bits;
+    size_t start = place(deep, node, &bits);
+    return (uint32_t)(window(bytes + start / 8) >> (start % 8) & (((uint64_t)1 << bits) - 1));
+}
+
+static inline void put_word(uint8_t *bytes, uint32_t deep, uint32_t node, uint32_t value) {
+    uint32_t bits;
+    size_t start = place(deep, node, &bits);
+    uint64_t mask = (((uint64_t)1 << bits) - 1) << (start % 8);
+    uint64_t x = (window(bytes + start / 8) & ~mask) | (uint64_t)value << (start % 8);
+    memcpy(bytes + start / 8, &x, sizeof x);
+}
+
+static inline size_t leaf_bit(uint32_t deep, uint32_t node) {
+    return ((size_t)2 << deep) + ((size_t)node << (deep - depth(node)));
+}
+
+/* Algorithm 1, with the left child's word both compared and subtracted. */
+uint32_t c_leaf(const uint8_t *bytes, uint32_t deep, uint32_t number) {
+    uint32_t node = 1;
+    while (word(bytes, deep, node) > 1) {
+        uint32_t left = word(bytes, deep, 2 * node);
+        if (number < left) {
+            node *= 2;
+        } else {
+            number -= left;
+            node = 2 * node + 1;
+        }
+    }
+    return node;
+}
+
+/* Algorithm 2. */
+void c_sums(uint8_t *bytes, uint32_t deep) {
+    for (uint32_t d = deep; d-- > 0;)
+        for (uint32_t node = (uint32_t)1 << d; node < (uint32_t)2 << d; node++)
+            put_word(bytes, deep, node, word(bytes, deep, 2 * node) + word(bytes, deep, 2 * node + 1));
+}
+
+struct around {
+    uint32_t left, right, edge, node;
+};
+
+static inline uint32_t right_child(uint32_t node) { return 2 * node + (node != 0); }
+
+static inline struct around around(uint32_t node) {
+    uint32_t levels = depth(node) - 1, first = node >> levels;
+    struct around n = {0, 0, 5 - first, first};
+    while (levels-- > 0) {
+        if ((node >> levels & 1) == 0)
+            n = (struct around){2 * n.node + 1, right_child(n.edge), right_child(n.right), 2 * n.node};
+        else
+            n = (struct around){2 * n.edge, 2 * n.node, 2 * n.left, 2 * n.node + 1};
+    }
+    return n;
+}
+
+/* Algorithm 6, for a square. */
+struct around c_neighbours(uint32_t node) { return around(node); }
+
+struct triangle {
+    uint32_t at[3][2];
+};
+
+/* Algorithm 5 with each matrix of formula 3 applied to the corners at once. */
+struct triangle c_corners(uint32_t node) {
+    uint32_t levels = depth(node) - 1, upper = (node >> levels & 1) * 256;
+    uint32_t ax = upper, ay = 256 - upper, bx = upper, by = upper, cx = 256 - upper, cy = upper;
+    while (levels-- > 0) {
+        uint32_t mx = (ax + cx) / 2, my = (ay + cy) / 2;
+        if ((node >> levels & 1) == 0) {
+            cx = bx;
+            cy = by;
+        } else {
+            ax = bx;
+            ay = by;
+        }
+        bx = mx;
+        by = my;
+    }
+    return (struct triangle){{{ax, ay}, {bx, by}, {cx, cy}}};
+}
+
+static inline void split_node(uint8_t *bytes, uint32_t deep, uint32_t node) {
+    size_t bit = leaf_bit(deep, 2 * node + 1);
+    bytes[bit / 8] |= (uint8_t)(1u << (bit % 8));
+}
+
+static inline void merge_node(uint8_t *bytes, uint32_t deep, uint32_t node) {
+    size_t bit = leaf_bit(deep, node | 1);
+    bytes[bit / 8] &= (uint8_t)~(1u << (bit % 8));
+}
+
+/* Algorithm 7, then all sums. */
+void c_split(uint8_t *bytes, uint32_t deep, uint32_t node) {
+    split_node(bytes, deep, node);
+    node = around(node).edge;
+    while (node > 1) {
+        split_node(bytes, deep, node);
+        node /= 2;
+        split_node(bytes, deep, node);
+        node = node > 1 ? around(node).edge : 0;
+    }
+    c_sums(bytes, deep);
+}
+
+/* Algorithm 8, then all sums. At the border there is no pair across. */
+void c_merge(uint8_t *bytes, uint32_t deep, uint32_t node) {
+    uint32_t across = around(node / 2).edge;
+    if (word(bytes, deep, node ^ 1) != 1)
+        return;
+    if (across != 0 && (word(bytes, deep, 2 * across) != 1 || word(bytes, deep, 2 * across + 1) != 1))
+        return;
+    merge_node(bytes, deep, node);
+    if (across != 0)
+        merge_node(bytes, deep, 2 * across + 1);
+    c_sums(bytes, deep);
+}
+
+/* Algorithm 13, with the node's own last digit tested. */
+uint32_t c_number(const uint8_t *bytes, uint32_t deep, uint32_t node) {
+    uint32_t number = 0;
+    for (; node > 1; node /= 2)
+        if (node & 1)
+            number += word(bytes, deep, node ^ 1);
+    return number;
+}
