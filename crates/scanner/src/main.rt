@@ -1,5 +1,7 @@
 // The scanner: reads request records from standard input, works through them, and prints a line for each answer. Then, if a panel is
 // open, it prints a line for each of its leaves.
+mod lines;
+
 use libc::STDIN_FILENO;
 use libc::STDOUT_FILENO;
 use nodes::LeafNumber;
@@ -10,12 +12,11 @@ fn wide(x: u8) -> u64 {
     x as u64
 }
 
-// Two numbers with a space between them.
+// One line, in one write.
 fn print_line(a: u64, b: u64) {
-    io::print_decimal(STDOUT_FILENO, a);
-    io::write_all(STDOUT_FILENO, b" ");
-    io::print_decimal(STDOUT_FILENO, b);
-    io::write_all(STDOUT_FILENO, b"\n");
+    let mut out = [0u8; lines::LONGEST];
+    let n = lines::line(a, b, &mut out);
+    io::write_all(STDOUT_FILENO, &out[..n]);
 }
 
 // Each record's number from 1, and its answer.

@@ -1,0 +1,92 @@
+-- Each number has at most 20 digits, so its part fits, and each part stands behind the ones before it.
+use mathlib.Core.Path.{sym}
+use Prim.Native.Nat.{_≤_}
+use native.Mathlib.Omega.{arith}
+use lib.ListN.{length}
+use lib.Seq.{length-take-le}
+use borrow.Author.Needs.{needs}
+use Rattle.scanner.proofs.Texts.{few-digits, line-made}
+use Rattle.scanner.proofs.lines.line.Statement.{statement}
+use Rattle.scanner.proofs.lines.line.Tie as tie
+
+first-fits : (c : tie.After-decimal) → c .decimal .result ≤ 20
+first-fits c = few-digits {k = 20} (c .decimal .ensures .1 .0) (omega arith) (omega (arith, c .before .before .fits .a))
+
+second-fits : (c : tie.After-decimal2) → c .decimal2 .result ≤ 20
+second-fits c = few-digits {k = 20} (c .decimal2 .ensures .1 .0) (omega arith) (omega (arith, c .before .before .before .before .fits .b))
+
+decimal-requires : tie.Need-decimal-requires
+decimal-requires c κs = search needs
+
+decimal-requires-2 : tie.Need-decimal-requires-2
+decimal-requires-2 c κs = search needs
+
+array-share-prefix-first : tie.Need-array-share-prefix-first
+array-share-prefix-first c = search needs
+
+slice-aggregate-put : tie.Need-slice-aggregate-put
+slice-aggregate-put c = search needs
+
+put-requires : tie.Need-put-requires
+put-requires c κs = omega (arith, first-fits (c .before .before .before .before))
+
+slice-aggregate-put-2 : tie.Need-slice-aggregate-put-2
+slice-aggregate-put-2 c = search needs
+
+put-requires-2 : tie.Need-put-requires-2
+put-requires-2 c κs = omega (arith, first-fits (c .before .before .before .before .before .before .before))
+
+array-share-prefix-second : tie.Need-array-share-prefix-second
+array-share-prefix-second c = search needs
+
+slice-aggregate-put-3 : tie.Need-slice-aggregate-put-3
+slice-aggregate-put-3 c = search needs
+
+put-requires-3 : tie.Need-put-requires-3
+put-requires-3 c κs =
+    let d = c .before .before .before .before .before .before .before .before in
+    omega (arith, first-fits (d .before .before), second-fits d)
+
+slice-aggregate-put-4 : tie.Need-slice-aggregate-put-4
+slice-aggregate-put-4 c = search needs
+
+put-requires-4 : tie.Need-put-requires-4
+put-requires-4 c κs =
+    let d = c .before .before .before .before .before .before .before .before .before .before .before in
+    omega (arith, first-fits (d .before .before), second-fits d)
+
+returns : tie.Need-returns
+returns c =
+    let p = c .before .before .before in
+    let q = p .before .before .before in
+    let r = q .before .before .before in
+    let d = r .before .before .before in
+    let e = d .before .before in
+    let short : c .put4 .result ≤ length (c .put4 .last .0) = omega (arith, put-requires-4 (c .before) (c .put4 .lifetimes)) in (
+      (short, sym (length-take-le (c .put4 .result) (c .put4 .last .0) short)),
+      line-made
+          record { places = e .decimal .result; fewest = e .decimal .ensures .1 .0; text = e .decimal .ensures .1 .1 }
+          record { places = d .decimal2 .result; fewest = d .decimal2 .ensures .1 .0; text = d .decimal2 .ensures .1 .1 }
+          (r .put .ensures .1)
+          (q .put2 .ensures .1)
+          (p .put3 .ensures .1)
+          (c .put4 .ensures .1),
+    )
+
+pub line-spec : {M : Type 1} → statement M
+line-spec =
+    tie.close
+    (tie.spec
+    decimal-requires
+    decimal-requires-2
+    array-share-prefix-first
+    slice-aggregate-put
+    put-requires
+    slice-aggregate-put-2
+    put-requires-2
+    array-share-prefix-second
+    slice-aggregate-put-3
+    put-requires-3
+    slice-aggregate-put-4
+    put-requires-4
+    returns)
