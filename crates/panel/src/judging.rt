@@ -3,9 +3,6 @@ use nodes::Answer;
 use nodes::Node;
 use nodes::Refusal;
 ghost use Rattle.nodes.specs.Refusals.{answerNumber};
-ghost use Rattle.nodes.specs.Table.{Says};
-ghost use Rattle.sums.specs.Words.{leafBit, Room};
-ghost use Rattle.cuts.specs.Cuts.{Cut, GoodCuts};
 ghost use Rattle.panel.specs.Calls.{Judged};
 ghost use Rattle.panel.specs.Judging.{Deep};
 
