@@ -13,7 +13,7 @@ use crate::random::Random;
 use crate::runs::node;
 use crate::tally::{Compared, Difference, Tally};
 
-const PROGRAM: &str = concat!(env!("CARGO_MANIFEST_DIR"), "/../target/bin/scanner");
+const PROGRAM: &str = concat!(env!("CARGO_MANIFEST_DIR"), "/../.ci/scanner");
 
 /// How the input comes: whole, or in parts of uneven length that the program reads one by one.
 #[derive(Clone, Copy)]
