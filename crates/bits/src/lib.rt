@@ -43,6 +43,14 @@ fn window(bytes: &[u8], i: usize) -> u32
         + 256 * (byte(bytes, i + 1) + 256 * (byte(bytes, i + 2) + 256 * byte(bytes, i + 3)))
 }
 
+// The eight bytes from i on: the field of their 64 bits.
+pub fn get_eight(bytes: &[u8], i: usize) -> u64
+    requires { ⌜ i + 8 ≤ length (now bytes) ⌝ }
+    ensures { λ r. ⌜ r ≡ field (now (bytes .entry)) (8 * i) 64 ⌝ }
+{
+    window(bytes, i) as u64 + 4294967296 * (window(bytes, i + 4) as u64)
+}
+
 // Where the window that holds the bits from s on starts.
 fn place(len: usize, s: usize) -> usize
     requires { ⌜ 4 ≤ len ⌝ }

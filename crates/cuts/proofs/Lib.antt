@@ -4,7 +4,7 @@ pub mod NodeSums
 pub mod Places
 pub mod Following
 pub mod Naming
-pub mod LeafBytes
+pub mod LeafWords
 pub mod Leaves
 pub mod Numbering
 pub mod Descent

@@ -30,44 +30,87 @@ AcrossCut P n = edge n ≢ 0 → P (edge n)
 abbrev pub PlaceFollows : ℕ → (ℕ → ℕ) → ℕ → Type 0
 PlaceFollows D f p = 0 < p → f p ≡ 1 → Follows (Cut D f) (named D p)
 
--- ---- eight leaf bits
+-- so may all nodes that are cut
+abbrev pub AllFollow : ℕ → (ℕ → ℕ) → Type 0
+AllFollow D f = (p : ℕ) → p < 2 ^ D → PlaceFollows D f p
 
--- b is the leaf byte below q: its bits 1 to 7 say whether q, its children and theirs are cut
-pub record CutByte (P : ℕ → Type 0) (q b : ℕ) : Type 0 where
-  pub small : b < 256
-  pub own : P q ↔ (digit b 4 ≡ 1)
-  pub left : P (2 * q) ↔ (digit b 2 ≡ 1)
-  pub right : P (2 * q + 1) ↔ (digit b 6 ≡ 1)
-  pub first : P (4 * q) ↔ (digit b 1 ≡ 1)
-  pub second : P (4 * q + 1) ↔ (digit b 3 ≡ 1)
-  pub third : P (4 * q + 2) ↔ (digit b 5 ≡ 1)
-  pub fourth : P (4 * q + 3) ↔ (digit b 7 ≡ 1)
+-- ---- 64 leaf bits
 
--- each bit of b that names a child, or a child's child, of q is set only beside its parent's
+-- b is the leaf word below q: with p = 2 ^ t (2 c + 1), its bit p says whether node 2 ^ (5 - t) q + c is cut
+pub record CutWord (P : ℕ → Type 0) (q b : ℕ) : Type 0 where
+  pub names : (t c : ℕ) → t ≤ 5 → c < 2 ^ (5 - t) → P (2 ^ (5 - t) * q + c) ↔ (digit b (2 ^ t * (2 * c + 1)) ≡ 1)
+
+-- bit a of each of the n words of v bits in b is set only where bit p is
+pub record Under (n v a p b : ℕ) : Type 0 where
+  pub at : (i : ℕ) → i < n → digit b (a + i * v) ≤ digit b (p + i * v)
+
+-- .. and where bit p is set, too
+pub record Same (n v a p b : ℕ) : Type 0 where
+  pub at : (i : ℕ) → i < n → digit b (a + i * v) ≡ digit b (p + i * v)
+
+-- each bit of b but the first and q's is set only beside its parent's
+pub record Beside (n s b : ℕ) : Type 0 where
+  pub left : Under n (4 * s) s (2 * s) b
+  pub right : Under n (4 * s) (3 * s) (2 * s) b
+
 pub record ParentsBeside (b : ℕ) : Type 0 where
-  pub left : digit b 2 ≤ digit b 4
-  pub right : digit b 6 ≤ digit b 4
-  pub first : digit b 1 ≤ digit b 2
-  pub second : digit b 3 ≤ digit b 2
-  pub third : digit b 5 ≤ digit b 6
-  pub fourth : digit b 7 ≤ digit b 6
+  pub one : Beside 16 1 b
+  pub two : Beside 8 2 b
+  pub three : Beside 4 4 b
+  pub four : Beside 2 8 b
+  pub five : Beside 1 16 b
 
--- x, the leaf byte below q's edge neighbour e, has what b asks for across q's long side: q asks for e, 4q for 4e + 3, 4q + 3 for 4e
-pub record Mirrored (b x : ℕ) : Type 0 where
-  pub own : digit b 4 ≤ digit x 4
-  pub first : digit b 1 ≤ digit x 7
-  pub fourth : digit b 7 ≤ digit x 1
+-- nodes that stand across from each other below q: 4m + 1 and 4m + 2, and 16m + 4 and 16m + 11, 16m + 7 and 16m + 8
+pub record InnerSame (b : ℕ) : Type 0 where
+  pub one : Same 8 8 3 5 b
+  pub two : Same 4 16 6 10 b
+  pub three : Same 2 32 12 20 b
+  pub four : Same 1 64 24 40 b
+  pub outer-one : Same 2 32 9 23 b
+  pub inner-one : Same 2 32 15 17 b
+  pub outer-two : Same 1 64 18 46 b
+  pub inner-two : Same 1 64 30 34 b
 
--- q may be cut, and each cut child of its children has none or a cut node across its long side
-pub record TopFollows (P : ℕ → Type 0) (q : ℕ) : Type 0 where
-  pub own : Follows P q
-  pub across : (n : ℕ) → n / 4 ≡ q → P n → AcrossCut P n
+-- seven nodes along the long side of m: m, and the outer two of four, and of these again. Their bits in w stand s apart, or a multiple of it
+pub record Outer (P : ℕ → Type 0) (s m w : ℕ) : Type 0 where
+  pub own : P m ↔ (digit w (16 * s) ≡ 1)
+  pub first : P (4 * m) ↔ (digit w (4 * s) ≡ 1)
+  pub last : P (4 * m + 3) ↔ (digit w (28 * s) ≡ 1)
+  pub first-first : P (16 * m) ↔ (digit w s ≡ 1)
+  pub first-last : P (16 * m + 3) ↔ (digit w (7 * s) ≡ 1)
+  pub last-first : P (16 * m + 12) ↔ (digit w (25 * s) ≡ 1)
+  pub last-last : P (16 * m + 15) ↔ (digit w (31 * s) ≡ 1)
 
--- q, its children and theirs, where they are cut, may be
-abbrev pub SevenFollow : (ℕ → Type 0) → ℕ → Type 0
-SevenFollow P q = (i n : ℕ) → i ≤ 2 → n / 2 ^ i ≡ q → P n → Follows P n
+-- across the long side they stand in the other order
+pub record Mirrored (s w x : ℕ) : Type 0 where
+  pub own : digit w (16 * s) ≤ digit x (16 * s)
+  pub first : digit w (4 * s) ≤ digit x (28 * s)
+  pub last : digit w (28 * s) ≤ digit x (4 * s)
+  pub first-first : digit w s ≤ digit x (31 * s)
+  pub first-last : digit w (7 * s) ≤ digit x (25 * s)
+  pub last-first : digit w (25 * s) ≤ digit x (7 * s)
+  pub last-last : digit w (31 * s) ≤ digit x s
 
--- so may all nodes that leaf byte j names
-pub record ByteFollows (D : ℕ) (f : ℕ → ℕ) (j : ℕ) : Type 0 where
-  pub place : PlaceFollows D f (8 * j)
-  pub seven : SevenFollow (Cut D f) (2 ^ (D - 3) + j)
+-- each of the seven that is cut has none or a cut node across its long side
+pub record OuterAcross (P : ℕ → Type 0) (m : ℕ) : Type 0 where
+  pub own : P m → AcrossCut P m
+  pub first : P (4 * m) → AcrossCut P (4 * m)
+  pub last : P (4 * m + 3) → AcrossCut P (4 * m + 3)
+  pub first-first : P (16 * m) → AcrossCut P (16 * m)
+  pub first-last : P (16 * m + 3) → AcrossCut P (16 * m + 3)
+  pub last-first : P (16 * m + 12) → AcrossCut P (16 * m + 12)
+  pub last-last : P (16 * m + 15) → AcrossCut P (16 * m + 15)
+
+pub record SidesFollow (P : ℕ → Type 0) (q : ℕ) : Type 0 where
+  pub own : OuterAcross P q
+  pub left : OuterAcross P (2 * q)
+  pub right : OuterAcross P (2 * q + 1)
+
+-- q and the nodes to five levels below it, where they are cut, may be
+abbrev pub BelowFollow : (ℕ → Type 0) → ℕ → Type 0
+BelowFollow P q = (k n : ℕ) → k ≤ 5 → n / 2 ^ k ≡ q → P n → Follows P n
+
+-- so may all nodes that leaf bits 64 j to 64 j + 63 name
+pub record BlockFollows (D : ℕ) (f : ℕ → ℕ) (j : ℕ) : Type 0 where
+  pub place : PlaceFollows D f (64 * j)
+  pub below : BelowFollow (Cut D f) (2 ^ (D - 6) + j)

@@ -1,8 +1,8 @@
 // Sets of cuts, their leaves and the numbers of these: definitions and laws over any leaf bits, and the functions that read and
 // judge the cuts in lent ones.
 pub mod named; // a cut and the leaf bit that names it
-pub mod eights; // judging eight leaf bits at a time, and all of them
+pub mod blocks; // judging 64 leaf bits at a time, and all of them
 
-pub use eights::cuts_good;
+pub use blocks::cuts_good;
 pub use named::cut_place;
 pub use named::is_cut;

@@ -2,7 +2,9 @@ pub mod Slots
 pub mod Rooms
 pub mod Rows
 pub mod Pairs
+pub mod Abreast
 pub mod Lowest
+pub mod LowSix
 pub mod Steps
 pub mod Leaves
 pub mod Unique

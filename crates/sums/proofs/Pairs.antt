@@ -2,7 +2,7 @@
 use mathlib.Core.Path.{_≡_, sym, ap, ap₂, _∙_, subst}
 use mathlib.Core.List.{List}
 use Prim.Native.Nat.{ℕ, zero, suc, _+_, _-_, _*_, _/_, _%_, _^_, _≤_, _<_}
-use native.Mathlib.Nat.{add-assoc, add-comm, zero-mul, suc-mul, mul-le-mul-right, mod-one, mod-eq-of-lt}
+use native.Mathlib.Nat.{add-assoc, add-comm, add-zero, div-one, zero-mul, suc-mul, mul-le-mul-right, mod-one, mod-eq-of-lt}
 use native.Mathlib.Omega.{arith}
 use lib.Pow.{mod-pow-add}
 use Rattle.bits.specs.Bits.{digit, bit, field}
@@ -18,6 +18,10 @@ part-field : (bs : List ℕ) (s m a b : ℕ) → a + b ≤ m → field bs s m / 
 part-field bs s m a b h =
     sym (run-digits (field bs s m) a b)
     ∙ run-ext (digit (field bs s m)) (bit bs) a (s + a) b (λ i l. run-digit (bit bs) (bit-lt bs) s m (a + i) (omega arith) ∙ ap (bit bs) (sym (add-assoc s a i)))
+
+-- its lowest bits
+pub field-mod : (bs : List ℕ) (s m b : ℕ) → b ≤ m → field bs s m % 2 ^ b ≡ field bs s b
+field-mod bs s m b h = ap (λ (x : ℕ). x % 2 ^ b) (sym (div-one (field bs s m))) ∙ part-field bs s m 0 b (omega arith) ∙ ap (λ (x : ℕ). field bs x b) (add-zero s)
 
 -- n words of w bits side by side are one field
 word-part : (D d w : ℕ) → d + w ≡ D + 1 → d ≤ D → (bs : List ℕ) (k n i : ℕ) → 2 ^ d ≤ k → k + n ≤ 2 ^ (d + 1) → i < n

@@ -80,3 +80,19 @@ quarter {D} r =
       small = omega (arith, bounds r);
       inside = omega (arith, bounds r);
     }
+
+-- the number of words of row D - 6, as the code computes it
+abbrev pub blocksOf : ℕ → ℕ
+blocksOf D = 1 * 2 ^ (D - 6) % 2 ^ 64
+
+-- the leaf bits are m times 64
+pub record Blocks (D len m : ℕ) : Type 0 where
+  pub is : m ≡ 2 ^ (D - 6)
+  pub small : m ≤ 2048
+  pub inside : 32 * m ≤ len
+
+pub blocks : {D : ℕ} {bs : List ℕ} → Room D bs → 6 ≤ D → Blocks D (length bs) (blocksOf D)
+blocks {D} r h =
+    let e = one-shl (D - 6) 64 (omega arith) in
+    let f : 2 ^ D ≡ 64 * 2 ^ (D - 6) = ap (λ (x : ℕ). 2 ^ x) {x = D} {y = D - 6 + 6} (omega arith) ∙ pow-add 2 (D - 6) 6 ∙ omega arith in
+    record { is = e; small = omega (arith, bounds r); inside = omega (arith, bounds r) }

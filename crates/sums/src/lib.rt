@@ -1,6 +1,7 @@
 // Words and sums.
 pub mod words; // words, leaf bits, the part of the bytes that the leaf bits fill
 pub mod sevens; // the seven sums over eight leaf bits
+pub mod sixes; // the six rows of sums over 64 leaf bits
 pub mod making; // making every sum right
 pub mod testing; // whether all sums are right
 

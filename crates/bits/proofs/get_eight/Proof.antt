@@ -1,0 +1,55 @@
+-- Two windows of four bytes, side by side, are one of eight.
+use native.Mathlib.Omega.{arith}
+use mathlib.Core.Path.{_≡_, sym, ap, _∙_}
+use Prim.Native.Nat.{ℕ, _+_, _*_, _-_, _/_, _%_, _^_}
+use lib.ListN.{getD}
+use Rattle.bits.specs.Windows.{little}
+use Rattle.bits.proofs.Windows.{field-window}
+use borrow.Author.Needs.{needs}
+use Rattle.bits.proofs.get_eight.Statement.{statement}
+use Rattle.bits.proofs.get_eight.Tie as tie
+
+window-requires : tie.Need-window-requires
+window-requires c κs = search needs
+
+cast-result : tie.Need-cast-result
+cast-result c = search needs
+
+add-window : tie.Need-add-window
+add-window c = search needs
+
+window-requires-2 : tie.Need-window-requires-2
+window-requires-2 c κs = search needs
+
+cast-result-2 : tie.Need-cast-result-2
+cast-result-2 c = search needs
+
+mul-result : tie.Need-mul-result
+mul-result c = search needs
+
+add-result : tie.Need-add-result
+add-result c = search needs
+
+returns : tie.Need-returns
+unfolding little
+returns c =
+    let a = c .before .before .before .args in
+    let b = a .bytes .now in
+    let e : (i j : ℕ) → i ≡ j → getD b i 0 ≡ getD b j 0 = λ i j h. ap (λ (x : ℕ). getD b x 0) h in
+    let i = a .i in
+    let whole : c .before .window .result + 4294967296 * c .window2 .result ≡ little b i 8 = omega (arith, c .before .window .ensures, c .window2 .ensures, e (i + 4) (i + 1 + 1 + 1 + 1) (omega arith), e (i + 4 + 1) (i + 1 + 1 + 1 + 1 + 1) (omega arith), e (i + 4 + 1 + 1) (i + 1 + 1 + 1 + 1 + 1 + 1) (omega arith), e (i + 4 + 1 + 1 + 1) (i + 1 + 1 + 1 + 1 + 1 + 1 + 1) (omega arith)) in
+    let off : 8 * i - 8 * i ≡ 0 = omega arith in
+    omega (arith, whole, field-window b (λ j. c .before .before .shared-slice-known .given j .fits) (8 * i) 64 i 8 (omega arith) (omega arith), ap (λ (k : ℕ). little b i 8 / 2 ^ k % 2 ^ 64) off)
+
+pub get-eight-spec : {M : Type 1} → statement M
+get-eight-spec =
+    tie.close
+    (tie.spec
+    window-requires
+    cast-result
+    add-window
+    window-requires-2
+    cast-result-2
+    mul-result
+    add-result
+    returns)

@@ -1,0 +1,21 @@
+-- The bits of the words, masked, are compared word by word.
+use native.Mathlib.Omega.{arith}
+use Rattle.nodes.proofs.Tables.{says-equal}
+use Rattle.cuts.proofs.LeafWords.{same-is, is-same}
+use borrow.Author.Needs.{needs}
+use Rattle.cuts.proofs.blocks.same.Statement.{statement}
+use Rattle.cuts.proofs.blocks.same.Tie as tie
+
+shr-result : tie.Need-shr-result
+shr-result c = search needs
+
+shr-result-2 : tie.Need-shr-result-2
+shr-result-2 c = search needs
+
+returns : tie.Need-returns
+returns c =
+    let a = c .args in
+    says-equal _ _ (same-is (c .pre .0) (a .x) (a .a) (a .b)) (is-same (c .pre .0) (a .x) (a .a) (a .b))
+
+pub same-spec : {M : Type 1} → statement M
+same-spec = tie.close (tie.spec shr-result shr-result-2 returns)
