@@ -1,15 +1,15 @@
--- Words side by side in one number: masked, joined two by two, and packed. Each law holds over the width.
+-- Words side by side in one number: masked, joined two by two, packed, and spread. Each law holds over the width.
 use mathlib.Core.Path.{_≡_, refl, sym, ap, ap₂, _∙_, subst}
-use mathlib.Core.List.{List}
 use Prim.Native.Nat.{ℕ, zero, suc, _+_, _-_, _*_, _/_, _%_, _^_, _≤_, _<_}
-use native.Mathlib.Nat.{add-assoc, add-comm, zero-mul, suc-mul, add-mul, mul-assoc, mul-comm, mul-add, div-one, mod-lt, mod-eq-of-lt, pow-suc, le-dest, add-zero, mul-le-mul-right}
+use native.Mathlib.Nat.{add-comm, zero-mul, suc-mul, add-mul, mul-assoc, mul-comm, mul-right-comm, div-one, mod-lt, mod-eq-of-lt, le-dest, mul-le-mul-right}
 use native.Mathlib.Omega.{arith}
 use lib.Arith.{digits-lt}
 use lib.Bits.{bitAnd, and-zero-r, and-block, and-mask}
 use lib.Pow.{pow-pos, pow-add, split, high, low, shr-shr, mod-mod-pow, ones-lt, pow-mono}
+use lib.Pow as P
 use Rattle.bits.specs.Bits.{digit}
-use Rattle.bits.proofs.Laws.{digit-shift}
-use Rattle.sums.specs.Rows.{part, PairSums, abreast, Halves, Narrow, Joined, Packed, Six, SixOver}
+use Rattle.bits.proofs.Laws.{digit-shift, digit-mod}
+use Rattle.sums.specs.Rows.{part, PairSums, abreast, Halves, Narrow, Joined, Packed, SixOver}
 
 -- ---- the words of a number
 
@@ -38,6 +38,19 @@ part-abreast (suc n) w f h (suc i) l =
     ∙ ap (λ (x : ℕ). x / 2 ^ (i * w) % 2 ^ w) (high (abreast n w (λ i. f (suc i))) w (h 0 (omega arith)))
     ∙ part-abreast n w (λ i. f (suc i)) (λ i l. h (suc i) (omega arith)) i (omega arith)
 
+-- a bit of a word
+pub word-digit : (n v : ℕ) (f : ℕ → ℕ) → ((i : ℕ) → i < n → f i < 2 ^ v) → (i k : ℕ) → i < n → k < v → digit (abreast n v f) (i * v + k) ≡ digit (f i) k
+word-digit n v f h i k l g =
+    sym (digit-shift (abreast n v f) (i * v) k) ∙ sym (digit-mod (abreast n v f / 2 ^ (i * v)) k v g) ∙ ap (λ (x : ℕ). digit x k) (part-abreast n v f h i l)
+
+-- each word k times
+pub times : (n v k : ℕ) (f : ℕ → ℕ) → abreast n v f * k ≡ abreast n v (λ i. f i * k)
+unfolding abreast
+times zero v k f = zero-mul k
+times (suc n) v k f =
+    let a : ℕ = abreast n v (λ i. f (suc i)) in
+    omega (arith, add-mul (a * 2 ^ v) (f 0) k, mul-right-comm a (2 ^ v) k, ap (λ (y : ℕ). y * 2 ^ v) (times n v k (λ i. f (suc i))))
+
 -- ---- masked and joined
 
 -- a mask of w bits in each word of v bits takes the lowest w bits of each
@@ -60,6 +73,25 @@ masked (suc n) v w x h =
 -- bit a of each word of v bits
 pub bits-at : (n v a x : ℕ) → 1 ≤ v → bitAnd (x / 2 ^ a) (abreast n v (λ i. 1)) ≡ abreast n v (λ i. digit x (a + i * v))
 bits-at n v a x h = masked n v 1 (x / 2 ^ a) h ∙ same-words n v (λ i. digit (x / 2 ^ a) (i * v)) (λ i. digit x (a + i * v)) (λ i l. digit-shift x a (i * v))
+
+-- two shifts in the other order
+shr-swap : (x a b : ℕ) → x / 2 ^ a / 2 ^ b ≡ x / 2 ^ b / 2 ^ a
+shr-swap x a b = shr-shr x a b ∙ ap (λ (y : ℕ). x / 2 ^ y) (add-comm a b) ∙ sym (shr-shr x b a)
+
+-- w bits of a number from bit a on lie in its v lowest
+inner : (x v a w : ℕ) → a + w ≤ v → x % 2 ^ v / 2 ^ a % 2 ^ w ≡ x / 2 ^ a % 2 ^ w
+inner x v a w l =
+    let d = le-dest l in
+    ap (λ (y : ℕ). x % 2 ^ y / 2 ^ a % 2 ^ w) {x = v} {y = d .0 + w + a} (omega (arith, d .1))
+    ∙ ap (λ (y : ℕ). y % 2 ^ w) (P.field x (d .0 + w) a) ∙ mod-mod-pow (x / 2 ^ a) (d .0) w
+
+-- w bits of each word of v bits, from its bit a on
+taken : (n v a w : ℕ) (f : ℕ → ℕ) → ((i : ℕ) → i < n → f i < 2 ^ v) → a + w ≤ v → bitAnd (abreast n v f / 2 ^ a) (abreast n v (λ i. 2 ^ w - 1)) ≡ abreast n v (λ i. f i / 2 ^ a % 2 ^ w)
+taken n v a w f h l =
+    let x : ℕ = abreast n v f in
+    masked n v w (x / 2 ^ a) (omega arith)
+    ∙ same-words n v (λ i. x / 2 ^ a / 2 ^ (i * v) % 2 ^ w) (λ i. f i / 2 ^ a % 2 ^ w)
+    (λ i b. ap (λ (y : ℕ). y % 2 ^ w) (shr-swap x a (i * v)) ∙ sym (inner (x / 2 ^ (i * v)) v a w l) ∙ ap (λ (y : ℕ). y / 2 ^ a % 2 ^ w) (part-abreast n v f h i b))
 
 -- both of two
 pub and-words : (n v : ℕ) (f g : ℕ → ℕ) → ((i : ℕ) → f i < 2 ^ v) → ((i : ℕ) → g i < 2 ^ v) → bitAnd (abreast n v f) (abreast n v g) ≡ abreast n v (λ i. bitAnd (f i) (g i))
@@ -159,9 +191,9 @@ halves-32 = record { low = omega arith; whole = refl; is = refl }
 -- ---- packed
 
 -- one word is the number
-pub one-word : (w x : ℕ) → x < 2 ^ 64 → abreast 1 w (part 64 x) ≡ x
+pub one-word : (w v x : ℕ) → x < 2 ^ v → abreast 1 w (part v x) ≡ x
 unfolding abreast
-one-word w x h = omega (arith, zero-mul (2 ^ w), div-one x, mod-eq-of-lt h)
+one-word w v x h = omega (arith, zero-mul (2 ^ w), ap (λ (y : ℕ). x / 2 ^ y % 2 ^ v) (zero-mul v), ap (λ (y : ℕ). y % 2 ^ v) (div-one x), mod-eq-of-lt h)
 
 -- n words of 2 w bits, each two words of w bits
 in-pairs : (n w : ℕ) (f : ℕ → ℕ) → abreast n (2 * w) (λ i. f (2 * i) + f (2 * i + 1) * 2 ^ w) ≡ abreast (2 * n) w f
@@ -186,6 +218,38 @@ module _ {n v w x r : ℕ} (hx : Narrow (2 * n) v w x) (j : Joined n v w x r) wh
 
   pub pack-step : {q : ℕ} → Packed n (2 * v) (2 * w) r q → Packed (2 * n) v w x q
   pack-step p = record { is = p .is ∙ same-words n (2 * w) (part (2 * v) r) (λ i. part v x (2 * i) + part v x (2 * i + 1) * 2 ^ w) (j .two) ∙ in-pairs n w (part v x) }
+
+-- ---- spread
+
+-- n words of 2 w bits of x, each in 2 v bits, become 2 n words of w bits, each in v: the upper halves move on
+module _ (n v w x : ℕ) (l : w ≤ v) where
+  abbrev wide : ℕ
+  wide = abreast n (2 * v) (part (2 * w) x)
+
+  abbrev lower : ℕ
+  lower = abreast n (2 * v) (λ i. 2 ^ w - 1)
+
+  fit : (i : ℕ) → i < n → part (2 * w) x i < 2 ^ (2 * v)
+  fit i b = omega (arith, mod-lt (x / 2 ^ (i * (2 * w))) (pow-pos (2 * w)), pow-mono (let g : 2 * w ≤ 2 * v = omega arith in g))
+
+  first-half : (i : ℕ) → part (2 * w) x i / 2 ^ 0 % 2 ^ w ≡ part w x (2 * i)
+  first-half i = let y : ℕ = x / 2 ^ (i * (2 * w)) in inner y (2 * w) 0 w (omega arith) ∙ ap (λ (z : ℕ). z % 2 ^ w) (div-one y) ∙ even-at n w x i
+
+  second-half : (i : ℕ) → part (2 * w) x i / 2 ^ w % 2 ^ w ≡ part w x (2 * i + 1)
+  second-half i = inner (x / 2 ^ (i * (2 * w))) (2 * w) w w (omega arith) ∙ ap (λ (z : ℕ). z % 2 ^ w) (shr-swap x (i * (2 * w)) w) ∙ odd-at n w x i
+
+  pub halved : bitAnd wide lower + bitAnd (wide / 2 ^ w) lower * 2 ^ v ≡ abreast (2 * n) v (part w x)
+  halved =
+      ap₂ (λ (y z : ℕ). y + z * 2 ^ v)
+      (ap (λ (y : ℕ). bitAnd y lower) (sym (div-one wide)) ∙ taken n (2 * v) 0 w (part (2 * w) x) fit (omega arith)
+      ∙ same-words n (2 * v) (λ i. part (2 * w) x i / 2 ^ 0 % 2 ^ w) (λ i. part w x (2 * i)) (λ i b. first-half i))
+      (taken n (2 * v) w w (part (2 * w) x) fit (omega arith)
+      ∙ same-words n (2 * v) (λ i. part (2 * w) x i / 2 ^ w % 2 ^ w) (λ i. part w x (2 * i + 1)) (λ i b. second-half i))
+      ∙ added n (2 * v) v (λ i. part w x (2 * i)) (λ i. part w x (2 * i + 1)) ∙ in-pairs n v (part w x)
+
+-- the first bits of the words, likewise
+pub ones-halved : (n v : ℕ) → abreast n (2 * v) (λ i. 1) + abreast n (2 * v) (λ i. 1) * 2 ^ v ≡ abreast (2 * n) v (λ i. 1)
+ones-halved n v = added n (2 * v) v (λ i. 1) (λ i. 1) ∙ in-pairs n v (λ i. 1)
 
 -- ---- a row of sums from the row below
 
@@ -226,7 +290,7 @@ module _ {x a b c d e : ℕ} (ha : Joined 32 1 0 x a) (hb : Joined 16 2 0 a b) (
     all-narrow = narrow-next halves-narrow hf
 
     pf : Packed 1 64 7 f f
-    pf = record { is = sym (one-word 7 f lf) }
+    pf = record { is = sym (one-word 7 64 f lf) }
 
     sb : SameWords 16 3 4 b' b
     sb = packed-same fours-narrow pb

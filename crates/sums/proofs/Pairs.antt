@@ -4,9 +4,9 @@ use mathlib.Core.List.{List}
 use Prim.Native.Nat.{ℕ, zero, suc, _+_, _-_, _*_, _/_, _%_, _^_, _≤_, _<_}
 use native.Mathlib.Nat.{add-assoc, add-comm, add-zero, div-one, zero-mul, suc-mul, mul-le-mul-right, mod-one, mod-eq-of-lt}
 use native.Mathlib.Omega.{arith}
-use lib.Pow.{mod-pow-add}
+use lib.Pow.{mod-pow-add, shr-mod}
 use Rattle.bits.specs.Bits.{digit, bit, field}
-use Rattle.bits.proofs.Laws.{run-ext, run-digit, run-digits, bit-lt}
+use Rattle.bits.proofs.Laws.{run-ext, run-digit, run-digits, bit-lt, field-lt}
 use Rattle.nodes.proofs.Depths.{pow-next}
 use Rattle.sums.specs.Words.{word}
 use Rattle.sums.specs.Rows.{SumAt, SumsBetween, part, PairSums}
@@ -22,6 +22,10 @@ part-field bs s m a b h =
 -- its lowest bits
 pub field-mod : (bs : List ℕ) (s m b : ℕ) → b ≤ m → field bs s m % 2 ^ b ≡ field bs s b
 field-mod bs s m b h = ap (λ (x : ℕ). x % 2 ^ b) (sym (div-one (field bs s m))) ∙ part-field bs s m 0 b (omega arith) ∙ ap (λ (x : ℕ). field bs x b) (add-zero s)
+
+-- its bits from bit a on
+pub field-high : (bs : List ℕ) (s a b : ℕ) → field bs s (b + a) / 2 ^ a ≡ field bs (s + a) b
+field-high bs s a b = sym (shr-mod b a (field-lt bs s (b + a))) ∙ part-field bs s (b + a) a b (omega arith)
 
 -- n words of w bits side by side are one field
 word-part : (D d w : ℕ) → d + w ≡ D + 1 → d ≤ D → (bs : List ℕ) (k n i : ℕ) → 2 ^ d ≤ k → k + n ≤ 2 ^ (d + 1) → i < n
