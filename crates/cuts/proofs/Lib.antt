@@ -5,6 +5,7 @@ pub mod Places
 pub mod Following
 pub mod Naming
 pub mod LeafWords
+pub mod Spreading
 pub mod Leaves
 pub mod Numbering
 pub mod Descent
