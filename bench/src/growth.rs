@@ -1,4 +1,4 @@
-//! Cost in step with the panel's bytes: nanoseconds a byte, from depth 6 to 14.
+//! Cost in step with the panel's bytes: nanoseconds a byte, from depth 3 to 14.
 
 use std::time::Duration;
 
@@ -9,13 +9,15 @@ use bench::timing::least;
 pub fn print(long: Duration) {
     println!("| D | bytes | panel | judge, ns | ns a byte | making all sums, ns | ns a byte |");
     println!("|---|---|---|---|---|---|---|");
-    for deep in 6..=14 {
+    for deep in 3..=14 {
         for kind in KINDS {
             let mut panel = Panel::new(deep, kind);
             let bytes = panel.lent().len();
-            let judge = |p: &mut Panel| assert_eq!(ours::judge(p.lent()), 0);
-            let make = |p: &mut Panel| ours::make_sums(p.lent_mut(), deep);
-            let times = least(&mut panel, 1, long, |_| {}, judge, make);
+            // A small panel's calls are shorter than the clock can tell.
+            let calls = 8192 / bytes;
+            let judge = |p: &mut Panel| (0..calls).for_each(|_| assert_eq!(ours::judge(p.lent()), 0));
+            let make = |p: &mut Panel| (0..calls).for_each(|_| ours::make_sums(p.lent_mut(), deep));
+            let times = least(&mut panel, calls, long, |_| {}, judge, make);
             // Here the two sides are two of ours.
             let (judge, make) = (times.ours, times.ordinary);
             let a_byte = |t: f64| t / bytes as f64;

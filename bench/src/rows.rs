@@ -85,7 +85,7 @@ fn sums<S: Ordinary>(long: Duration, panel: &Panel) -> Vec<Row> {
         },
         Row {
             what: "making all sums",
-            target: Some(0.6),
+            target: Some(0.15),
             times: Some(least(work, 1, long, |_| {}, make, made)),
         },
     ]

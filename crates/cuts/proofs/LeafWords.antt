@@ -3,72 +3,116 @@ use mathlib.Core.Path.{_≡_, refl, sym, ap, ap₂, _∙_, subst}
 use mathlib.Core.Logic.{_≢_, _↔_}
 use mathlib.Core.List.{List}
 use Prim.Native.Nat.{ℕ, zero, suc, _+_, _-_, _*_, _/_, _%_, _^_, _≤_, _<_}
-use native.Mathlib.Nat.{mod-lt, mul-comm, mul-add}
+use native.Mathlib.Nat.{mod-lt, mul-comm, mul-add, add-mul, mul-assoc, mul-le-mul-right, div-one}
 use native.Mathlib.Decide.{ℕ-discrete, decLe}
 use native.Mathlib.Omega.{arith}
-use lib.Pow.{pow-pos, pow-add, pow-mono, shr-lt, split}
-use lib.Bits.{bitAnd, and-le-l, and-le-r}
+use lib.Pow.{pow-pos, pow-add, pow-mono, shr-lt, shr-le, shr-shr, shl-shr, split, high}
 use lib.ListN.{length}
 use Rattle.bits.specs.Bits.{digit, bit, field}
 use Rattle.bits.proofs.Laws.{one-shl, run-digit, bit-lt, digit-lt, digit-shift}
 use Rattle.nodes.specs.Depth.{depthOf}
-use Rattle.nodes.specs.Neighbours.{rightChild, edge}
+use Rattle.nodes.specs.Neighbours.{edge}
 use Rattle.nodes.proofs.Depths.{At, at-from, at-depth, at-below, pow-next}
-use Rattle.nodes.proofs.Neighbouring.{right-child}
-use Rattle.nodes.proofs.Edges.{edge-0, edge-1, edge-2, edge-3, edge-low, edge-mutual}
+use Rattle.nodes.proofs.Edges.{edge-low, edge-mutual, edge-first}
 use Rattle.sums.specs.Words.{leafBit, Room}
 use Rattle.sums.proofs.Rooms.{bounds}
-use Rattle.sums.specs.Rows.{abreast, Ones}
-use Rattle.sums.proofs.Abreast.{bits-at, and-words, words-same, same-words}
 use Rattle.sums.proofs.LowSix.{pow-six}
 use Rattle.cuts.specs.Cuts.{named, Cut, GoodCuts}
-use Rattle.cuts.specs.Steps.{Follows}
-use Rattle.cuts.proofs.CutBits.{first-suc}
+use Rattle.cuts.specs.Steps.{Follows, AcrossCut, PlaceFollows, AllFollow, CutWord, Same, Beside, ParentsBeside, InnerSame, TopSame, Outer, Mirrored, OuterAcross, RootFollows, BelowFollow, BlockFollows}
 use Rattle.cuts.proofs.Following.{good-follows, place-cut}
 use Rattle.cuts.proofs.Places.{place-name, names-named, cut-place, cut-set}
-use Rattle.cuts.specs.Steps.{AcrossCut, PlaceFollows, AllFollow, CutWord, Under, Same, Beside, ParentsBeside, InnerSame, Outer, Mirrored, OuterAcross, SidesFollow, BelowFollow, BlockFollows}
+use Rattle.cuts.proofs.Crossing.{two, first-none, first-some, second-across, third-across, fourth-across, across-4, across-7, across-8, across-11, Both, Over, Across, Pairs, across, root-across, levels}
 
--- ---- four nodes, and two
+-- ---- nodes below q, k levels down
 
-four : (Q : ℕ → Type 0) (q : ℕ) → Q (4 * q) → Q (4 * q + 1) → Q (4 * q + 2) → Q (4 * q + 3) → (n : ℕ) → n / 4 ≡ q → Q n
-four Q q a b c d n e = go (decLe (n % 4) 0) (decLe (n % 4) 1) (decLe (n % 4) 2)
-  where
-    go : Dec (n % 4 ≤ 0) → Dec (n % 4 ≤ 1) → Dec (n % 4 ≤ 2) → Q n
-    go (yes x) y z = subst Q (let h : 4 * q ≡ n = omega arith in h) a
-    go (no x) (yes y) z = subst Q (let h : 4 * q + 1 ≡ n = omega arith in h) b
-    go (no x) (no y) (yes z) = subst Q (let h : 4 * q + 2 ≡ n = omega arith in h) c
-    go (no x) (no y) (no z) = subst Q (let h : 4 * q + 3 ≡ n = omega arith in h) d
+-- node i of the 2 ^ k that stand there
+pub down : (q k : ℕ) {i : ℕ} → i < 2 ^ k → (2 ^ k * q + i) / 2 ^ k ≡ q
+down q k {i} l = ap (λ x. (x + i) / 2 ^ k) (mul-comm (2 ^ k) q) ∙ high q k l
 
-two : (Q : ℕ → Type 0) (q : ℕ) → Q (2 * q) → Q (2 * q + 1) → (n : ℕ) → n / 2 ≡ q → Q n
-two Q q a b n e = go (decLe (n % 2) 0)
-  where
-    go : Dec (n % 2 ≤ 0) → Q n
-    go (yes x) = subst Q (let h : 2 * q ≡ n = omega arith in h) a
-    go (no x) = subst Q (let h : 2 * q + 1 ≡ n = omega arith in h) b
+pub down-at : (q k m : ℕ) → m / 2 ^ k ≡ q → m ≡ 2 ^ k * q + m % 2 ^ k
+down-at q k m e = omega (arith, split m k, ap (λ x. x * 2 ^ k) e, mul-comm q (2 ^ k))
 
--- ---- across their long sides
+-- j levels further down
+pub deeper : {q : ℕ} (j k n m : ℕ) → n / 2 ^ j ≡ m → m / 2 ^ k ≡ q → n / 2 ^ (j + k) ≡ q
+deeper j k n m h e = sym (shr-shr n j k) ∙ ap (λ x. x / 2 ^ k) h ∙ e
 
-module _ (q : ℕ) (p : 2 ≤ q) where
-  first-across : edge (4 * q) ≡ rightChild (rightChild (edge q))
-  first-across = ap edge (let e : 4 * q ≡ 2 * (2 * q) = omega arith in e) ∙ edge-0 q p
+-- ---- what a good set of cuts asks of them
 
-  second-across : edge (4 * q + 1) ≡ 4 * q + 2
-  second-across = ap edge (let e : 4 * q + 1 ≡ 2 * (2 * q) + 1 = omega arith in e) ∙ edge-1 q p ∙ omega arith
+-- each is cut only where its parent is
+abbrev pub Ups : (ℕ → Type 0) → ℕ → Type 0
+Ups P q = (k m : ℕ) → k ≤ 4 → m / 2 ^ k ≡ q → (P (2 * m) → P m) × (P (2 * m + 1) → P m)
 
-  third-across : edge (4 * q + 2) ≡ 4 * q + 1
-  third-across = ap edge (let e : 4 * q + 2 ≡ 2 * (2 * q + 1) = omega arith in e) ∙ edge-2 q p ∙ omega (arith, right-child (2 * q))
+-- pairs of them, m at least one level down
+pub record InnerBoth (P : ℕ → Type 0) (q : ℕ) : Type 0 where
+  pub middle : (k : ℕ) → 1 ≤ k → k ≤ 3 → (m : ℕ) → m / 2 ^ k ≡ q → Both P (4 * m + 1) (4 * m + 2)
+  pub outer : (m : ℕ) → m / 2 ^ 1 ≡ q → Both P (16 * m + 4) (16 * m + 11)
+  pub inner : (m : ℕ) → m / 2 ^ 1 ≡ q → Both P (16 * m + 7) (16 * m + 8)
 
-  fourth-across : edge (4 * q + 3) ≡ 4 * edge q
-  fourth-across = ap edge (let e : 4 * q + 3 ≡ 2 * (2 * q + 1) + 1 = omega arith in e) ∙ edge-3 q p ∙ omega arith
+module _ (P : ℕ → Type 0) (q : ℕ) where
+  -- the parts of the test make the whole ..
+  pub below-follow : Ups P q → (2 ≤ q → P q → P (q / 2)) → ((k n : ℕ) → k ≤ 5 → n / 2 ^ k ≡ q → Over P n) → BelowFollow P q
+  below-follow u t o zero n l e p =
+      let h : q ≡ n = omega arith in
+      record { up = subst (λ x. 2 ≤ x → P (x / 2)) h (λ g. t g (subst P (sym h) p)); over = λ _. o 0 n l e p }
+  below-follow u t o (suc k) n l e p =
+      let m : ℕ = n / 2 in
+      let f = u k m (omega arith) (shr-shr n 1 k ∙ ap (λ x. n / 2 ^ x) (let h : 1 + k ≡ suc k = omega arith in h) ∙ e) in
+      record { up = λ _. two (λ x. P x → P m) m (f .0) (f .1) n refl p; over = λ _. o (suc k) n l e p }
 
-  -- at the border the outer two have none
-  first-none : edge q ≡ 0 → edge (4 * q) ≡ 0
-  first-none z = omega (arith, first-across, right-child (rightChild (edge q)), right-child (edge q))
+  -- a child of q, with the pairs that stand below it
+  half-pairs : InnerBoth P q → (m : ℕ) → m / 2 ≡ q → Pairs P m
+  half-pairs b m e = record { middle = b .middle 1 (omega arith) (omega arith) m e; outer = b .outer m e; inner = b .inner m e }
 
-  first-some : edge q ≢ 0 → edge (4 * q) ≡ 4 * edge q + 3
-  first-some z = omega (arith, first-across, right-child (rightChild (edge q)), right-child (edge q))
+  pub half-across : 1 ≤ q → InnerBoth P q → (m : ℕ) → m / 2 ≡ q → OuterAcross P m → Across P m
+  half-across low b m e o = across P m (omega arith) o (half-pairs b m e) (λ r h. b .middle 3 (omega arith) (omega arith) r (omega arith))
 
--- ---- the bits
+  -- .. and follow from it
+  module _ (low : 1 ≤ q) (f : BelowFollow P q) where
+    pub ups : Ups P q
+    ups k m l e = (up (2 * m) (omega arith), up (2 * m + 1) (omega arith))
+      where
+        up : (n : ℕ) → n / 2 ≡ m → P n → P m
+        up n h p = subst P h (f (1 + k) n (omega arith) (deeper 1 k n m h e) p .up (omega (arith, shr-le m k)))
+
+    -- node n, j levels below m, which stands k levels below q
+    over-at : (j k n m : ℕ) → j + k ≤ 5 → n / 2 ^ j ≡ m → m / 2 ^ k ≡ q → 2 ≤ n → Over P n
+    over-at j k n m l h e g p = f (j + k) n l (deeper j k n m h e) p .over g
+
+    pub outer-at : (k m : ℕ) → k ≤ 1 → m / 2 ^ k ≡ q → 2 ≤ m → OuterAcross P m
+    outer-at k m l h g = record {
+      own = over-at 0 k m m (omega arith) (omega arith) h g;
+      first = over-at 2 k (4 * m) m (omega arith) (omega arith) h (omega arith);
+      last = over-at 2 k (4 * m + 3) m (omega arith) (omega arith) h (omega arith);
+      first-first = over-at 4 k (16 * m) m (omega arith) (omega arith) h (omega arith);
+      first-last = over-at 4 k (16 * m + 3) m (omega arith) (omega arith) h (omega arith);
+      last-first = over-at 4 k (16 * m + 12) m (omega arith) (omega arith) h (omega arith);
+      last-last = over-at 4 k (16 * m + 15) m (omega arith) (omega arith) h (omega arith);
+    }
+
+    pair : (j k m n o : ℕ) → j + k ≤ 5 → n / 2 ^ j ≡ m → o / 2 ^ j ≡ m → m / 2 ^ k ≡ q → (2 ≤ n) × (2 ≤ o) → edge n ≡ o → edge o ≡ n → Both P n o
+    pair j k m n o l hn ho e g a b =
+        (λ p. subst P a (over-at j k n m l hn e (g .0) p (omega arith)), λ p. subst P b (over-at j k o m l ho e (g .1) p (omega arith)))
+
+    middle-both : (k m : ℕ) → k ≤ 3 → m / 2 ^ k ≡ q → 2 ≤ m → Both P (4 * m + 1) (4 * m + 2)
+    middle-both k m l e g = pair 2 k m (4 * m + 1) (4 * m + 2) (omega arith) (omega arith) (omega arith) e (omega arith, omega arith) (second-across m g) (third-across m g)
+
+    outer-both : (k m : ℕ) → k ≤ 1 → m / 2 ^ k ≡ q → 2 ≤ m → Both P (16 * m + 4) (16 * m + 11)
+    outer-both k m l e g = pair 4 k m (16 * m + 4) (16 * m + 11) (omega arith) (omega arith) (omega arith) e (omega arith, omega arith) (across-4 m g) (across-11 m g)
+
+    inner-both : (k m : ℕ) → k ≤ 1 → m / 2 ^ k ≡ q → 2 ≤ m → Both P (16 * m + 7) (16 * m + 8)
+    inner-both k m l e g = pair 4 k m (16 * m + 7) (16 * m + 8) (omega arith) (omega arith) (omega arith) e (omega arith, omega arith) (across-7 m g) (across-8 m g)
+
+    pub all-both : InnerBoth P q
+    all-both = record {
+      middle = λ k a l m e. middle-both k m l e (omega (arith, shr-le (m / 2) (k - 1), shr-shr m 1 (k - 1), ap (λ x. m / 2 ^ x) (let h : 1 + (k - 1) ≡ k = omega arith in h)));
+      outer = λ m e. outer-both 1 m (omega arith) e (omega arith);
+      inner = λ m e. inner-both 1 m (omega arith) e (omega arith);
+    }
+
+    pub top-both : 2 ≤ q → Pairs P q
+    top-both g = record { middle = middle-both 0 q (omega arith) (omega arith) g; outer = outer-both 0 q (omega arith) (omega arith) g; inner = inner-both 0 q (omega arith) (omega arith) g }
+
+-- ---- the leaf word says it
 
 -- a bit is at most another where that is set beside it
 beside : (x y : ℕ) → x < 2 → (x ≡ 1 → y ≡ 1) → x ≤ y
@@ -78,354 +122,155 @@ beside x y l h = go (ℕ-discrete x 1)
     go (yes e) = omega (arith, h e)
     go (no e) = omega arith
 
--- ---- bits at the same place of each word
-
-bit-fits : (n v k : ℕ) → 1 ≤ v → digit n k < 2 ^ v
-bit-fits n v k h = omega (arith, digit-lt n k, pow-mono {i = 1} {j = v} h)
-
-module _ {v mask : ℕ} (o : Ones v mask) (x : ℕ) where
-  -- bit a of each word
-  pub taken : (a : ℕ) → bitAnd (x / 2 ^ a) mask ≡ abreast (64 / v) v (λ i. digit x (a + i * v))
-  taken a = ap (bitAnd (x / 2 ^ a)) (o .is) ∙ bits-at (64 / v) v a x (o .some)
-
-  both-bits : (a p : ℕ) → ℕ → ℕ
-  both-bits a p i = bitAnd (digit x (a + i * v)) (digit x (p + i * v))
-
-  taken-both : (a p : ℕ) → bitAnd (bitAnd (x / 2 ^ a) mask) (bitAnd (x / 2 ^ p) mask) ≡ abreast (64 / v) v (both-bits a p)
-  unfolding both-bits
-  taken-both a p =
-      ap₂ bitAnd (taken a) (taken p) ∙ and-words (64 / v) v (λ i. digit x (a + i * v)) (λ i. digit x (p + i * v)) (λ i. bit-fits x v (a + i * v) (o .some)) (λ i. bit-fits x v (p + i * v) (o .some))
-
-  pub under-is : (a p : ℕ) → bitAnd (bitAnd (x / 2 ^ a) mask) (bitAnd (x / 2 ^ p) mask) ≡ bitAnd (x / 2 ^ a) mask → Under (64 / v) v a p x
-  unfolding both-bits
-  under-is a p e = record {
-    at = λ i l.
-        let h : both-bits a p i ≡ digit x (a + i * v) = words-same (64 / v) v (both-bits a p) (λ i. digit x (a + i * v)) (λ i. omega (arith, and-le-l (digit x (a + i * v)) (digit x (p + i * v)), bit-fits x v (a + i * v) (o .some))) (λ i. bit-fits x v (a + i * v) (o .some)) (sym (taken-both a p) ∙ e ∙ taken a) i l in
-        omega (arith, and-le-r (digit x (a + i * v)) (digit x (p + i * v)));
-  }
-
-  pub is-under : (a p : ℕ) → Under (64 / v) v a p x → bitAnd (bitAnd (x / 2 ^ a) mask) (bitAnd (x / 2 ^ p) mask) ≡ bitAnd (x / 2 ^ a) mask
-  unfolding both-bits
-  is-under a p u =
-      taken-both a p ∙ same-words (64 / v) v (both-bits a p) (λ i. digit x (a + i * v)) (λ i l. least (digit x (a + i * v)) (digit x (p + i * v)) (digit-lt x (a + i * v)) (digit-lt x (p + i * v)) (u .at i l)) ∙ sym (taken a)
-    where
-      least : (m n : ℕ) → m < 2 → n < 2 → m ≤ n → bitAnd m n ≡ m
-      least zero n a b l = refl
-      least (suc zero) zero a b l = absurd (omega arith)
-      least (suc zero) (suc zero) a b l = refl
-      least (suc zero) (suc (suc n)) a b l = absurd (omega arith)
-      least (suc (suc m)) n a b l = absurd (omega arith)
-
-  pub same-is : (a p : ℕ) → bitAnd (x / 2 ^ a) mask ≡ bitAnd (x / 2 ^ p) mask → Same (64 / v) v a p x
-  same-is a p e = record { at = words-same (64 / v) v (λ i. digit x (a + i * v)) (λ i. digit x (p + i * v)) (λ i. bit-fits x v (a + i * v) (o .some)) (λ i. bit-fits x v (p + i * v) (o .some)) (sym (taken a) ∙ e ∙ taken p) }
-
-  pub is-same : (a p : ℕ) → Same (64 / v) v a p x → bitAnd (x / 2 ^ a) mask ≡ bitAnd (x / 2 ^ p) mask
-  is-same a p u = taken a ∙ same-words (64 / v) v (λ i. digit x (a + i * v)) (λ i. digit x (p + i * v)) (u .at) ∙ sym (taken p)
-
--- the masks
-pub ones-4 : Ones 4 1229782938247303441
-unfolding abreast
-ones-4 = record { is = refl; some = omega arith }
-
-pub ones-8 : Ones 8 72340172838076673
-unfolding abreast
-ones-8 = record { is = refl; some = omega arith }
-
-pub ones-16 : Ones 16 281479271743489
-unfolding abreast
-ones-16 = record { is = refl; some = omega arith }
-
-pub ones-32 : Ones 32 4294967297
-unfolding abreast
-ones-32 = record { is = refl; some = omega arith }
-
-pub ones-64 : Ones 64 1
-unfolding abreast
-ones-64 = record { is = refl; some = omega arith }
-
--- ---- what a good set of cuts asks across the long sides
-
--- the middle two below r stand across from each other, and so do the outer two below these
-module _ (r : ℕ) (low : 2 ≤ r) where
-  across-4 : edge (4 * (4 * r + 1)) ≡ 16 * r + 11
-  across-4 = let e = second-across r low in first-some (4 * r + 1) (omega arith) (omega arith) ∙ omega arith
-
-  across-7 : edge (4 * (4 * r + 1) + 3) ≡ 16 * r + 8
-  across-7 = let e = second-across r low in fourth-across (4 * r + 1) (omega arith) ∙ omega arith
-
-  across-8 : edge (4 * (4 * r + 2)) ≡ 16 * r + 7
-  across-8 = let e = third-across r low in first-some (4 * r + 2) (omega arith) (omega arith) ∙ omega arith
-
-  across-11 : edge (4 * (4 * r + 2) + 3) ≡ 16 * r + 4
-  across-11 = let e = third-across r low in fourth-across (4 * r + 2) (omega arith) ∙ omega arith
-
--- both nodes are cut or none
-abbrev pub Both : (ℕ → Type 0) → ℕ → ℕ → Type 0
-Both P n m = (P n → P m) × (P m → P n)
-
-pub record InnerBoth (P : ℕ → Type 0) (q : ℕ) : Type 0 where
-  pub middle : (k m : ℕ) → k ≤ 3 → m / 2 ^ k ≡ q → Both P (4 * m + 1) (4 * m + 2)
-  pub outer : (k r : ℕ) → k ≤ 1 → r / 2 ^ k ≡ q → Both P (16 * r + 4) (16 * r + 11)
-  pub inner : (k r : ℕ) → k ≤ 1 → r / 2 ^ k ≡ q → Both P (16 * r + 7) (16 * r + 8)
-
-module _ (P : ℕ → Type 0) where
-  abbrev Over : ℕ → Type 0
-  Over n = P n → AcrossCut P n
-
-  to : (n m : ℕ) → edge n ≡ m → (P n → P m) → Over n
-  to n m e h p z = subst P (sym e) (h p)
-
-  over-four : (r : ℕ) → 2 ≤ r → Over (4 * r) → Over (4 * r + 3) → Both P (4 * r + 1) (4 * r + 2) → (n : ℕ) → n / 4 ≡ r → Over n
-  over-four r l a d b = four Over r a (to (4 * r + 1) (4 * r + 2) (second-across r l) (b .0)) (to (4 * r + 2) (4 * r + 1) (third-across r l) (b .1)) d
-
-  over-sixteen : (r : ℕ) → 2 ≤ r → OuterAcross P r → ((m : ℕ) → m / 4 ≡ r → Both P (4 * m + 1) (4 * m + 2)) → Both P (16 * r + 4) (16 * r + 11) → Both P (16 * r + 7) (16 * r + 8) → (n : ℕ) → n / 16 ≡ r → Over n
-  over-sixteen r l o b x y n e =
-      four (λ m. (n : ℕ) → n / 4 ≡ m → Over n) r
-      (under (4 * r) (omega arith) (at (16 * r) (4 * (4 * r)) (omega arith) (o .first-first)) (at (16 * r + 3) (4 * (4 * r) + 3) (omega arith) (o .first-last)))
-      (under (4 * r + 1) (omega arith) (to (4 * (4 * r + 1)) (16 * r + 11) (across-4 r l) (λ p. x .0 (move (4 * (4 * r + 1)) (16 * r + 4) (omega arith) p))) (to (4 * (4 * r + 1) + 3) (16 * r + 8) (across-7 r l) (λ p. y .0 (move (4 * (4 * r + 1) + 3) (16 * r + 7) (omega arith) p))))
-      (under (4 * r + 2) (omega arith) (to (4 * (4 * r + 2)) (16 * r + 7) (across-8 r l) (λ p. y .1 (move (4 * (4 * r + 2)) (16 * r + 8) (omega arith) p))) (to (4 * (4 * r + 2) + 3) (16 * r + 4) (across-11 r l) (λ p. x .1 (move (4 * (4 * r + 2) + 3) (16 * r + 11) (omega arith) p))))
-      (under (4 * r + 3) (omega arith) (at (16 * r + 12) (4 * (4 * r + 3)) (omega arith) (o .last-first)) (at (16 * r + 15) (4 * (4 * r + 3) + 3) (omega arith) (o .last-last)))
-      (n / 4) (omega arith) n refl
-    where
-      move : (n m : ℕ) → n ≡ m → P n → P m
-      move n m e = subst P e
-
-      at : (m n : ℕ) → m ≡ n → Over m → Over n
-      at m n e = subst Over e
-
-      under : (m : ℕ) → m / 4 ≡ r → Over (4 * m) → Over (4 * m + 3) → (n : ℕ) → n / 4 ≡ m → Over n
-      under m e a d = over-four m (omega arith) a d (b m e)
-
-  module _ (q : ℕ) (low : 2 ≤ q) where
-    over-all : InnerBoth P q → SidesFollow P q → (k n : ℕ) → k ≤ 5 → n / 2 ^ k ≡ q → Over n
-    over-all b s zero n l e = subst Over (let h : q ≡ n = omega arith in h) (s .own .own)
-    over-all b s (suc zero) n l e = two Over q (s .left .own) (s .right .own) n e
-    over-all b s (suc (suc zero)) n l e = over-four q low (s .own .first) (s .own .last) (b .middle 0 q (omega arith) (omega arith)) n e
-    over-all b s (suc (suc (suc zero))) n l e =
-        two (λ r. (n : ℕ) → n / 4 ≡ r → Over n) q
-        (over-four (2 * q) (omega arith) (s .left .first) (s .left .last) (b .middle 1 (2 * q) (omega arith) (omega arith)))
-        (over-four (2 * q + 1) (omega arith) (s .right .first) (s .right .last) (b .middle 1 (2 * q + 1) (omega arith) (omega arith)))
-        (n / 4) (omega arith) n refl
-    over-all b s (suc (suc (suc (suc zero)))) n l e =
-        over-sixteen q low (s .own) (λ m h. b .middle 2 m (omega arith) h) (b .outer 0 q (omega arith) (omega arith)) (b .inner 0 q (omega arith) (omega arith)) n e
-    over-all b s (suc (suc (suc (suc (suc zero))))) n l e =
-        two (λ r. (n : ℕ) → n / 16 ≡ r → Over n) q
-        (over-sixteen (2 * q) (omega arith) (s .left) (λ m h. b .middle 3 m (omega arith) (omega arith)) (b .outer 1 (2 * q) (omega arith) (omega arith)) (b .inner 1 (2 * q) (omega arith) (omega arith)))
-        (over-sixteen (2 * q + 1) (omega arith) (s .right) (λ m h. b .middle 3 m (omega arith) (omega arith)) (b .outer 1 (2 * q + 1) (omega arith) (omega arith)) (b .inner 1 (2 * q + 1) (omega arith) (omega arith)))
-        (n / 16) (omega arith) n refl
-    over-all b s (suc (suc (suc (suc (suc (suc k)))))) n l e = absurd (omega arith)
-
-    -- the parts of the test make the whole ..
-    pub below-follow : ((k n : ℕ) → 1 ≤ k → k ≤ 5 → n / 2 ^ k ≡ q → P n → P (n / 2)) → (P q → P (q / 2)) → InnerBoth P q → SidesFollow P q → BelowFollow P q
-    below-follow u t b s zero n l e p =
-        let h : q ≡ n = omega arith in
-        record { up = λ _. subst (λ x. P (x / 2)) h (t (subst P (sym h) p)); over = λ _. over-all b s 0 n l e p }
-    below-follow u t b s (suc k) n l e p = record { up = λ _. u (suc k) n (omega arith) l e p; over = λ _. over-all b s (suc k) n l e p }
-
-    -- .. and follow from it
-    module _ (f : BelowFollow P q) where
-      cross : (k n m : ℕ) → k ≤ 5 → n / 2 ^ k ≡ q → 2 ≤ n → edge n ≡ m → 0 < m → P n → P m
-      cross k n m l h g e z p = subst P e (f k n l h p .over g (omega arith))
-
-      over-at : (k n : ℕ) → k ≤ 5 → n / 2 ^ k ≡ q → 2 ≤ n → Over n
-      over-at k n l h g p = f k n l h p .over g
-
-      outer-at : (k m : ℕ) → k ≤ 1 → m / 2 ^ k ≡ q → 2 ≤ m → OuterAcross P m
-      outer-at zero m l h g = record {
-        own = over-at 0 m (omega arith) h g;
-        first = over-at 2 (4 * m) (omega arith) (omega arith) (omega arith);
-        last = over-at 2 (4 * m + 3) (omega arith) (omega arith) (omega arith);
-        first-first = over-at 4 (16 * m) (omega arith) (omega arith) (omega arith);
-        first-last = over-at 4 (16 * m + 3) (omega arith) (omega arith) (omega arith);
-        last-first = over-at 4 (16 * m + 12) (omega arith) (omega arith) (omega arith);
-        last-last = over-at 4 (16 * m + 15) (omega arith) (omega arith) (omega arith);
-      }
-      outer-at (suc zero) m l h g = record {
-        own = over-at 1 m (omega arith) h g;
-        first = over-at 3 (4 * m) (omega arith) (omega arith) (omega arith);
-        last = over-at 3 (4 * m + 3) (omega arith) (omega arith) (omega arith);
-        first-first = over-at 5 (16 * m) (omega arith) (omega arith) (omega arith);
-        first-last = over-at 5 (16 * m + 3) (omega arith) (omega arith) (omega arith);
-        last-first = over-at 5 (16 * m + 12) (omega arith) (omega arith) (omega arith);
-        last-last = over-at 5 (16 * m + 15) (omega arith) (omega arith) (omega arith);
-      }
-      outer-at (suc (suc k)) m l h g = absurd (omega arith)
-
-      pub sides-own : OuterAcross P q
-      sides-own = outer-at 0 q (omega arith) (omega arith) low
-
-      pub sides-left : OuterAcross P (2 * q)
-      sides-left = outer-at 1 (2 * q) (omega arith) (omega arith) (omega arith)
-
-      pub sides-right : OuterAcross P (2 * q + 1)
-      sides-right = outer-at 1 (2 * q + 1) (omega arith) (omega arith) (omega arith)
-
-      pub parents-cut : (k n : ℕ) → 1 ≤ k → k ≤ 5 → n / 2 ^ k ≡ q → 2 ≤ n → P n → P (n / 2)
-      parents-cut k n a l e g p = f k n l e p .up g
-
-      pub top-cut : P q → P (q / 2)
-      top-cut p = f 0 q (omega arith) (omega arith) p .up low
-
-      -- pairs of nodes that stand across from each other
-      pair : (k n m : ℕ) → k ≤ 5 → n / 2 ^ k ≡ q → m / 2 ^ k ≡ q → (2 ≤ n) × (2 ≤ m) → edge n ≡ m → edge m ≡ n → Both P n m
-      pair k n m l a b g e d = (cross k n m l a (g .0) e (omega arith), cross k m n l b (g .1) d (omega arith))
-
-      pub middle-both : (k m : ℕ) → k ≤ 5 → (4 * m + 1) / 2 ^ k ≡ q → (4 * m + 2) / 2 ^ k ≡ q → 2 ≤ m → Both P (4 * m + 1) (4 * m + 2)
-      middle-both k m l a b g = pair k (4 * m + 1) (4 * m + 2) l a b (omega arith) (second-across m g) (third-across m g)
-
-      pub outer-both : (k r : ℕ) → k ≤ 5 → (16 * r + 4) / 2 ^ k ≡ q → (16 * r + 11) / 2 ^ k ≡ q → 2 ≤ r → Both P (16 * r + 4) (16 * r + 11)
-      outer-both k r l a b g = pair k (16 * r + 4) (16 * r + 11) l a b (omega arith) (ap edge (let e : 16 * r + 4 ≡ 4 * (4 * r + 1) = omega arith in e) ∙ across-4 r g) (ap edge (let e : 16 * r + 11 ≡ 4 * (4 * r + 2) + 3 = omega arith in e) ∙ across-11 r g)
-
-      pub inner-both : (k r : ℕ) → k ≤ 5 → (16 * r + 7) / 2 ^ k ≡ q → (16 * r + 8) / 2 ^ k ≡ q → 2 ≤ r → Both P (16 * r + 7) (16 * r + 8)
-      inner-both k r l a b g = pair k (16 * r + 7) (16 * r + 8) l a b (omega arith) (ap edge (let e : 16 * r + 7 ≡ 4 * (4 * r + 1) + 3 = omega arith in e) ∙ across-7 r g) (ap edge (let e : 16 * r + 8 ≡ 4 * (4 * r + 2) = omega arith in e) ∙ across-8 r g)
-
--- ---- the leaf word says it
-
 module _ {P : ℕ → Type 0} {q b : ℕ} (c : CutWord P q b) where
-  -- the bit of n, which stands 5 - t levels below q
-  has : (t n p : ℕ) → t ≤ 5 → n / 2 ^ (5 - t) ≡ q → p ≡ 2 ^ t * (2 * (n % 2 ^ (5 - t)) + 1) → P n ↔ (digit b p ≡ 1)
-  has t n p l e f =
-      let m : ℕ = 2 ^ (5 - t) in
-      let h : m * q + n % m ≡ n = omega (arith, split n (5 - t), ap (λ x. x * m) e, mul-comm q m) in
-      subst (λ x. P x ↔ (digit b p ≡ 1)) h (subst (λ x. P (m * q + n % m) ↔ (digit b x ≡ 1)) (sym f) (c .names t (n % m) l (mod-lt n (pow-pos (5 - t)))))
+  -- node n stands j levels below node i of those k levels below q: its bit is bit p of word i, of words of v bits
+  lane : (t k j : ℕ) → t + k + j ≡ 5 → (n a i p v : ℕ) → n ≡ 2 ^ j * (2 ^ k * q + i) + a → a < 2 ^ j → i < 2 ^ k → p ≡ (2 * a + 1) * 2 ^ t → v ≡ 2 * 2 ^ j * 2 ^ t
+      → P n ↔ (digit b (p + i * v) ≡ 1)
+  lane t k j h n a i p v en la li ep ev =
+      let s : ℕ = 2 ^ t in
+      let w : ℕ = 2 ^ j in
+      let x : ℕ = a + i * w in
+      let all : 2 ^ (5 - t) ≡ w * 2 ^ k = ap (λ y. 2 ^ y) (let g : 5 - t ≡ j + k = omega arith in g) ∙ pow-add 2 j k in
+      let node : 2 ^ (5 - t) * q + x ≡ n = omega (arith, ap (λ y. y * q) all, mul-assoc w (2 ^ k) q, mul-add w (2 ^ k * q) i, mul-comm w i) in
+      let room : x < 2 ^ (5 - t) = omega (arith, mul-le-mul-right {m = i + 1} {n = 2 ^ k} w (omega arith), add-mul i 1 w, mul-comm (2 ^ k) w) in
+      let odd : 2 * x + 1 ≡ 2 * a + 1 + i * (2 * w) = omega (arith, mul-comm i (2 * w), mul-assoc 2 w i, mul-comm w i) in
+      let place : s * (2 * x + 1) ≡ p + i * v = mul-comm s (2 * x + 1) ∙ ap (λ y. y * s) odd ∙ add-mul (2 * a + 1) (i * (2 * w)) s ∙ ap₂ (λ y z. y + z) (sym ep) (mul-assoc i (2 * w) s ∙ ap (λ y. i * y) (sym ev)) in
+      subst (λ y. P y ↔ (digit b (p + i * v) ≡ 1)) node (subst (λ y. P (2 ^ (5 - t) * q + x) ↔ (digit b y ≡ 1)) place (c .names t x (omega arith) room))
 
   -- a word without bits 1 to 63 names none of them
   pub none-follow : b < 2 → BelowFollow P q
   none-follow h k n l e p =
-      let t : ℕ = 5 - k in
-      let d : 5 - t ≡ k = omega arith in
-      let c : ℕ = n % 2 ^ (5 - t) in
-      let i : ℕ = 2 ^ t * (2 * c + 1) in
-      let some : 1 ≤ i = omega (arith, pow-pos t, mul-add (2 ^ t) (2 * c) 1) in
-      let zero' : b / 2 ^ i < 1 = shr-lt 0 i (omega (arith, pow-mono {i = 1} {j = 0 + i} (omega arith))) in
-      absurd (omega (arith, has t n i (omega arith) (subst (λ x. n / 2 ^ x ≡ q) (sym d) e) refl .0 p))
+      let s : ℕ = 2 ^ (5 - k) in
+      let i : ℕ = s + n % 2 ^ k * (2 * s) in
+      let zero' : b / 2 ^ i < 1 = shr-lt 0 i (omega (arith, pow-mono {i = 1} {j = 0 + i} (omega (arith, pow-pos (5 - k))))) in
+      absurd (omega (arith, lane (5 - k) k 0 (omega arith) n 0 (n % 2 ^ k) s (2 * s) (omega (arith, down-at q k n e)) (omega arith) (mod-lt n (pow-pos k)) (omega arith) (omega arith) .0 p))
 
   -- a node and its parent
-  climb : (n l r p : ℕ) → (n % 2 ≡ 0 → P n ↔ (digit b l ≡ 1)) → (n % 2 ≡ 1 → P n ↔ (digit b r ≡ 1)) → P (n / 2) ↔ (digit b p ≡ 1) → digit b l ≤ digit b p → digit b r ≤ digit b p → P n → P (n / 2)
-  climb n l r p f g h x y z = go (ℕ-discrete (n % 2) 0)
-    where
-      go : Dec (n % 2 ≡ 0) → P (n / 2)
-      go (yes e) = h .1 (omega (arith, f e .0 z, digit-lt b p))
-      go (no e) = h .1 (omega (arith, g (omega arith) .0 z, digit-lt b p))
+  climb : (l p : ℕ) {n m : ℕ} → P n ↔ (digit b l ≡ 1) → P m ↔ (digit b p ≡ 1) → digit b l ≤ digit b p → P n → P m
+  climb l p f g h x = g .1 (omega (arith, f .0 x, digit-lt b p))
 
-  fall : (n m l p : ℕ) → P n ↔ (digit b l ≡ 1) → P m ↔ (digit b p ≡ 1) → (P n → P m) → digit b l ≤ digit b p
-  fall n m l p f h u = beside _ _ (digit-lt b l) (λ x. h .0 (u (f .1 x)))
+  fall : (l p : ℕ) {n m : ℕ} → P n ↔ (digit b l ≡ 1) → P m ↔ (digit b p ≡ 1) → (P n → P m) → digit b l ≤ digit b p
+  fall l p f g u = beside _ _ (digit-lt b l) (λ x. g .0 (u (f .1 x)))
 
-  pub parents-up : ParentsBeside b → (k n : ℕ) → 1 ≤ k → k ≤ 5 → n / 2 ^ k ≡ q → P n → P (n / 2)
-  parents-up u zero n a l e = absurd (omega arith)
-  parents-up u (suc zero) n a l e =
-      let i = n % 2 / 2 in
-      climb n (16 + i * 64) (48 + i * 64) (32 + i * 64) (λ z. has 4 n (16 + i * 64) (omega arith) e (omega arith)) (λ z. has 4 n (48 + i * 64) (omega arith) e (omega arith)) (has 5 (n / 2) (32 + i * 64) (omega arith) (omega arith) (omega arith))
-      (u .five .left .at i (omega arith)) (u .five .right .at i (omega arith))
-  parents-up u (suc (suc zero)) n a l e =
-      let i = n % 4 / 2 in
-      climb n (8 + i * 32) (24 + i * 32) (16 + i * 32) (λ z. has 3 n (8 + i * 32) (omega arith) e (omega arith)) (λ z. has 3 n (24 + i * 32) (omega arith) e (omega arith)) (has 4 (n / 2) (16 + i * 32) (omega arith) (omega arith) (omega arith))
-      (u .four .left .at i (omega arith)) (u .four .right .at i (omega arith))
-  parents-up u (suc (suc (suc zero))) n a l e =
-      let i = n % 8 / 2 in
-      climb n (4 + i * 16) (12 + i * 16) (8 + i * 16) (λ z. has 2 n (4 + i * 16) (omega arith) e (omega arith)) (λ z. has 2 n (12 + i * 16) (omega arith) e (omega arith)) (has 3 (n / 2) (8 + i * 16) (omega arith) (omega arith) (omega arith))
-      (u .three .left .at i (omega arith)) (u .three .right .at i (omega arith))
-  parents-up u (suc (suc (suc (suc zero)))) n a l e =
-      let i = n % 16 / 2 in
-      climb n (2 + i * 8) (6 + i * 8) (4 + i * 8) (λ z. has 1 n (2 + i * 8) (omega arith) e (omega arith)) (λ z. has 1 n (6 + i * 8) (omega arith) e (omega arith)) (has 2 (n / 2) (4 + i * 8) (omega arith) (omega arith) (omega arith))
-      (u .two .left .at i (omega arith)) (u .two .right .at i (omega arith))
-  parents-up u (suc (suc (suc (suc (suc zero))))) n a l e =
-      let i = n % 32 / 2 in
-      climb n (1 + i * 4) (3 + i * 4) (2 + i * 4) (λ z. has 0 n (1 + i * 4) (omega arith) e (omega arith)) (λ z. has 0 n (3 + i * 4) (omega arith) e (omega arith)) (has 1 (n / 2) (2 + i * 4) (omega arith) (omega arith) (omega arith))
-      (u .one .left .at i (omega arith)) (u .one .right .at i (omega arith))
-  parents-up u (suc (suc (suc (suc (suc (suc k)))))) n a l e = absurd (omega arith)
+  -- m is node i of those k levels below q, its children's bits are odd multiples of 2 ^ t
+  module _ (t k : ℕ) (h : t + k ≡ 4) (m i : ℕ) (e : m ≡ 2 ^ k * q + i) (l : i < 2 ^ k) where
+    parent : P m ↔ (digit b (2 * 2 ^ t + i * (4 * 2 ^ t)) ≡ 1)
+    parent = lane (t + 1) k 0 (omega arith) m 0 i (2 * 2 ^ t) (4 * 2 ^ t) (omega arith) (omega arith) l (omega (arith, pow-next t)) (omega (arith, pow-next t))
 
-  pub up-parents : 2 ≤ q → ((k n : ℕ) → 1 ≤ k → k ≤ 5 → n / 2 ^ k ≡ q → 2 ≤ n → P n → P (n / 2)) → ParentsBeside b
-  up-parents low h = record {
-    one = record {
-      left = record { at = λ i l. fall (32 * q + 2 * i) ((32 * q + 2 * i) / 2) (1 + i * 4) (2 + i * 4) (has 0 (32 * q + 2 * i) (1 + i * 4) (omega arith) (omega arith) (omega arith)) (has 1 ((32 * q + 2 * i) / 2) (2 + i * 4) (omega arith) (omega arith) (omega arith)) (h 5 (32 * q + 2 * i) (omega arith) (omega arith) (omega arith) (omega arith)) };
-      right = record { at = λ i l. fall (32 * q + 2 * i + 1) ((32 * q + 2 * i + 1) / 2) (3 + i * 4) (2 + i * 4) (has 0 (32 * q + 2 * i + 1) (3 + i * 4) (omega arith) (omega arith) (omega arith)) (has 1 ((32 * q + 2 * i + 1) / 2) (2 + i * 4) (omega arith) (omega arith) (omega arith)) (h 5 (32 * q + 2 * i + 1) (omega arith) (omega arith) (omega arith) (omega arith)) };
-    };
-    two = record {
-      left = record { at = λ i l. fall (16 * q + 2 * i) ((16 * q + 2 * i) / 2) (2 + i * 8) (4 + i * 8) (has 1 (16 * q + 2 * i) (2 + i * 8) (omega arith) (omega arith) (omega arith)) (has 2 ((16 * q + 2 * i) / 2) (4 + i * 8) (omega arith) (omega arith) (omega arith)) (h 4 (16 * q + 2 * i) (omega arith) (omega arith) (omega arith) (omega arith)) };
-      right = record { at = λ i l. fall (16 * q + 2 * i + 1) ((16 * q + 2 * i + 1) / 2) (6 + i * 8) (4 + i * 8) (has 1 (16 * q + 2 * i + 1) (6 + i * 8) (omega arith) (omega arith) (omega arith)) (has 2 ((16 * q + 2 * i + 1) / 2) (4 + i * 8) (omega arith) (omega arith) (omega arith)) (h 4 (16 * q + 2 * i + 1) (omega arith) (omega arith) (omega arith) (omega arith)) };
-    };
-    three = record {
-      left = record { at = λ i l. fall (8 * q + 2 * i) ((8 * q + 2 * i) / 2) (4 + i * 16) (8 + i * 16) (has 2 (8 * q + 2 * i) (4 + i * 16) (omega arith) (omega arith) (omega arith)) (has 3 ((8 * q + 2 * i) / 2) (8 + i * 16) (omega arith) (omega arith) (omega arith)) (h 3 (8 * q + 2 * i) (omega arith) (omega arith) (omega arith) (omega arith)) };
-      right = record { at = λ i l. fall (8 * q + 2 * i + 1) ((8 * q + 2 * i + 1) / 2) (12 + i * 16) (8 + i * 16) (has 2 (8 * q + 2 * i + 1) (12 + i * 16) (omega arith) (omega arith) (omega arith)) (has 3 ((8 * q + 2 * i + 1) / 2) (8 + i * 16) (omega arith) (omega arith) (omega arith)) (h 3 (8 * q + 2 * i + 1) (omega arith) (omega arith) (omega arith) (omega arith)) };
-    };
-    four = record {
-      left = record { at = λ i l. fall (4 * q + 2 * i) ((4 * q + 2 * i) / 2) (8 + i * 32) (16 + i * 32) (has 3 (4 * q + 2 * i) (8 + i * 32) (omega arith) (omega arith) (omega arith)) (has 4 ((4 * q + 2 * i) / 2) (16 + i * 32) (omega arith) (omega arith) (omega arith)) (h 2 (4 * q + 2 * i) (omega arith) (omega arith) (omega arith) (omega arith)) };
-      right = record { at = λ i l. fall (4 * q + 2 * i + 1) ((4 * q + 2 * i + 1) / 2) (24 + i * 32) (16 + i * 32) (has 3 (4 * q + 2 * i + 1) (24 + i * 32) (omega arith) (omega arith) (omega arith)) (has 4 ((4 * q + 2 * i + 1) / 2) (16 + i * 32) (omega arith) (omega arith) (omega arith)) (h 2 (4 * q + 2 * i + 1) (omega arith) (omega arith) (omega arith) (omega arith)) };
-    };
-    five = record {
-      left = record { at = λ i l. fall (2 * q + 2 * i) ((2 * q + 2 * i) / 2) (16 + i * 64) (32 + i * 64) (has 4 (2 * q + 2 * i) (16 + i * 64) (omega arith) (omega arith) (omega arith)) (has 5 ((2 * q + 2 * i) / 2) (32 + i * 64) (omega arith) (omega arith) (omega arith)) (h 1 (2 * q + 2 * i) (omega arith) (omega arith) (omega arith) (omega arith)) };
-      right = record { at = λ i l. fall (2 * q + 2 * i + 1) ((2 * q + 2 * i + 1) / 2) (48 + i * 64) (32 + i * 64) (has 4 (2 * q + 2 * i + 1) (48 + i * 64) (omega arith) (omega arith) (omega arith)) (has 5 ((2 * q + 2 * i + 1) / 2) (32 + i * 64) (omega arith) (omega arith) (omega arith)) (h 1 (2 * q + 2 * i + 1) (omega arith) (omega arith) (omega arith) (omega arith)) };
-    };
+    left : P (2 * m) ↔ (digit b (2 ^ t + i * (4 * 2 ^ t)) ≡ 1)
+    left = lane t k 1 (omega arith) (2 * m) 0 i (2 ^ t) (4 * 2 ^ t) (omega arith) (omega arith) l (omega arith) (omega arith)
+
+    right : P (2 * m + 1) ↔ (digit b (3 * 2 ^ t + i * (4 * 2 ^ t)) ≡ 1)
+    right = lane t k 1 (omega arith) (2 * m + 1) 1 i (3 * 2 ^ t) (4 * 2 ^ t) (omega arith) (omega arith) l (omega arith) (omega arith)
+
+  pub parents-up : ParentsBeside b → Ups P q
+  parents-up u k m l e =
+      let t : ℕ = 4 - k in
+      let s : Beside (2 ^ k) (2 ^ t) b = subst (λ x. Beside (2 ^ x) (2 ^ t) b) (let g : 4 - t ≡ k = omega arith in g) (u t (omega arith)) in
+      let i : ℕ = m % 2 ^ k in
+      let r = mod-lt m (pow-pos k) in
+      let d = down-at q k m e in
+      let a = parent t k (omega arith) m i d r in (
+        climb (2 ^ t + i * (4 * 2 ^ t)) (2 * 2 ^ t + i * (4 * 2 ^ t)) (left t k (omega arith) m i d r) a (s .left .at i r),
+        climb (3 * 2 ^ t + i * (4 * 2 ^ t)) (2 * 2 ^ t + i * (4 * 2 ^ t)) (right t k (omega arith) m i d r) a (s .right .at i r),
+      )
+
+  pub up-parents : Ups P q → ParentsBeside b
+  up-parents u t l = record {
+    left = record { at = λ i r. fall (2 ^ t + i * (4 * 2 ^ t)) (2 * 2 ^ t + i * (4 * 2 ^ t)) (left t k (omega arith) (m i) i refl r) (parent t k (omega arith) (m i) i refl r) (u k (m i) (omega arith) (down q k r) .0) };
+    right = record { at = λ i r. fall (3 * 2 ^ t + i * (4 * 2 ^ t)) (2 * 2 ^ t + i * (4 * 2 ^ t)) (right t k (omega arith) (m i) i refl r) (parent t k (omega arith) (m i) i refl r) (u k (m i) (omega arith) (down q k r) .1) };
   }
+    where
+      k : ℕ
+      k = 4 - t
 
-  -- nodes across from each other
-  both : (n m l r : ℕ) → P n ↔ (digit b l ≡ 1) → P m ↔ (digit b r ≡ 1) → digit b l ≡ digit b r → Both P n m
-  both n m l r f g e = (λ x. g .1 (sym e ∙ f .0 x), λ x. f .1 (e ∙ g .0 x))
+      m : ℕ → ℕ
+      m i = 2 ^ k * q + i
 
-  alike : (n m l r : ℕ) → P n ↔ (digit b l ≡ 1) → P m ↔ (digit b r ≡ 1) → Both P n m → digit b l ≡ digit b r
-  alike n m l r f g e =
-      let there : digit b l ≤ digit b r = beside _ _ (digit-lt b l) (λ x. g .0 (e .0 (f .1 x))) in
-      let back : digit b r ≤ digit b l = beside _ _ (digit-lt b r) (λ x. f .0 (e .1 (g .1 x))) in
-      omega arith
+  -- nodes across from each other: a and o of the nodes j levels below m, which stands k levels below q
+  module _ (t k j a o : ℕ) (h : t + k + j ≡ 5) (la : a < 2 ^ j) (lo : o < 2 ^ j) where
+    at : (m i : ℕ) → m ≡ 2 ^ k * q + i → i < 2 ^ k → (a : ℕ) → a < 2 ^ j → P (2 ^ j * m + a) ↔ (digit b ((2 * a + 1) * 2 ^ t + i * (2 * 2 ^ j * 2 ^ t)) ≡ 1)
+    at m i e l a la = lane t k j h (2 ^ j * m + a) a i ((2 * a + 1) * 2 ^ t) (2 * 2 ^ j * 2 ^ t) (ap (λ x. 2 ^ j * x + a) e) la l refl refl
+
+    pair-up : Same (2 ^ k) (2 * 2 ^ j * 2 ^ t) ((2 * a + 1) * 2 ^ t) ((2 * o + 1) * 2 ^ t) b → (m : ℕ) → m / 2 ^ k ≡ q → Both P (2 ^ j * m + a) (2 ^ j * m + o)
+    pair-up s m e =
+        let l = mod-lt m (pow-pos k) in
+        let f = at m (m % 2 ^ k) (down-at q k m e) l in
+        let d = s .at (m % 2 ^ k) l in
+        (λ x. f o lo .1 (sym d ∙ f a la .0 x), λ x. f a la .1 (d ∙ f o lo .0 x))
+
+    pair-down : ((m : ℕ) → m / 2 ^ k ≡ q → Both P (2 ^ j * m + a) (2 ^ j * m + o)) → Same (2 ^ k) (2 * 2 ^ j * 2 ^ t) ((2 * a + 1) * 2 ^ t) ((2 * o + 1) * 2 ^ t) b
+    pair-down u = record {
+      at = λ i l.
+          let m : ℕ = 2 ^ k * q + i in
+          let f = at m i refl l in
+          let d = u m (down q k l) in
+          let p : ℕ → ℕ = λ a. (2 * a + 1) * 2 ^ t + i * (2 * 2 ^ j * 2 ^ t) in
+          let there = fall (p a) (p o) (f a la) (f o lo) (d .0) in
+          let back = fall (p o) (p a) (f o lo) (f a la) (d .1) in
+          omega (arith, there, back);
+    }
 
   pub inner-up : InnerSame b → InnerBoth P q
-  inner-up s = record { middle = middle; outer = outer; inner = inner }
-    where
-      middle : (k m : ℕ) → k ≤ 3 → m / 2 ^ k ≡ q → Both P (4 * m + 1) (4 * m + 2)
-      middle zero m l e = let i : ℕ = 0 in both (4 * m + 1) (4 * m + 2) (24 + i * 64) (40 + i * 64) (has 3 (4 * m + 1) (24 + i * 64) (omega arith) (omega arith) (omega arith)) (has 3 (4 * m + 2) (40 + i * 64) (omega arith) (omega arith) (omega arith)) (s .four .at i (omega arith))
-      middle (suc zero) m l e = let i = m % 2 in both (4 * m + 1) (4 * m + 2) (12 + i * 32) (20 + i * 32) (has 2 (4 * m + 1) (12 + i * 32) (omega arith) (omega arith) (omega arith)) (has 2 (4 * m + 2) (20 + i * 32) (omega arith) (omega arith) (omega arith)) (s .three .at i (omega arith))
-      middle (suc (suc zero)) m l e = let i = m % 4 in both (4 * m + 1) (4 * m + 2) (6 + i * 16) (10 + i * 16) (has 1 (4 * m + 1) (6 + i * 16) (omega arith) (omega arith) (omega arith)) (has 1 (4 * m + 2) (10 + i * 16) (omega arith) (omega arith) (omega arith)) (s .two .at i (omega arith))
-      middle (suc (suc (suc zero))) m l e = let i = m % 8 in both (4 * m + 1) (4 * m + 2) (3 + i * 8) (5 + i * 8) (has 0 (4 * m + 1) (3 + i * 8) (omega arith) (omega arith) (omega arith)) (has 0 (4 * m + 2) (5 + i * 8) (omega arith) (omega arith) (omega arith)) (s .one .at i (omega arith))
-      middle (suc (suc (suc (suc k)))) m l e = absurd (omega arith)
-
-      outer : (k r : ℕ) → k ≤ 1 → r / 2 ^ k ≡ q → Both P (16 * r + 4) (16 * r + 11)
-      outer zero r l e = let i : ℕ = 0 in both (16 * r + 4) (16 * r + 11) (18 + i * 64) (46 + i * 64) (has 1 (16 * r + 4) (18 + i * 64) (omega arith) (omega arith) (omega arith)) (has 1 (16 * r + 11) (46 + i * 64) (omega arith) (omega arith) (omega arith)) (s .outer-two .at i (omega arith))
-      outer (suc zero) r l e = let i = r % 2 in both (16 * r + 4) (16 * r + 11) (9 + i * 32) (23 + i * 32) (has 0 (16 * r + 4) (9 + i * 32) (omega arith) (omega arith) (omega arith)) (has 0 (16 * r + 11) (23 + i * 32) (omega arith) (omega arith) (omega arith)) (s .outer-one .at i (omega arith))
-      outer (suc (suc k)) r l e = absurd (omega arith)
-
-      inner : (k r : ℕ) → k ≤ 1 → r / 2 ^ k ≡ q → Both P (16 * r + 7) (16 * r + 8)
-      inner zero r l e = let i : ℕ = 0 in both (16 * r + 7) (16 * r + 8) (30 + i * 64) (34 + i * 64) (has 1 (16 * r + 7) (30 + i * 64) (omega arith) (omega arith) (omega arith)) (has 1 (16 * r + 8) (34 + i * 64) (omega arith) (omega arith) (omega arith)) (s .inner-two .at i (omega arith))
-      inner (suc zero) r l e = let i = r % 2 in both (16 * r + 7) (16 * r + 8) (15 + i * 32) (17 + i * 32) (has 0 (16 * r + 7) (15 + i * 32) (omega arith) (omega arith) (omega arith)) (has 0 (16 * r + 8) (17 + i * 32) (omega arith) (omega arith) (omega arith)) (s .inner-one .at i (omega arith))
-      inner (suc (suc k)) r l e = absurd (omega arith)
-
-  pub same-up : (low : 2 ≤ q) → BelowFollow P q → InnerSame b
-  same-up low f = record {
-    one = record { at = λ i l. alike (4 * (8 * q + i) + 1) (4 * (8 * q + i) + 2) (3 + i * 8) (5 + i * 8) (has 0 (4 * (8 * q + i) + 1) (3 + i * 8) (omega arith) (omega arith) (omega arith)) (has 0 (4 * (8 * q + i) + 2) (5 + i * 8) (omega arith) (omega arith) (omega arith)) (middle-both P q low f 5 (8 * q + i) (omega arith) (omega arith) (omega arith) (omega arith)) };
-    two = record { at = λ i l. alike (4 * (4 * q + i) + 1) (4 * (4 * q + i) + 2) (6 + i * 16) (10 + i * 16) (has 1 (4 * (4 * q + i) + 1) (6 + i * 16) (omega arith) (omega arith) (omega arith)) (has 1 (4 * (4 * q + i) + 2) (10 + i * 16) (omega arith) (omega arith) (omega arith)) (middle-both P q low f 4 (4 * q + i) (omega arith) (omega arith) (omega arith) (omega arith)) };
-    three = record { at = λ i l. alike (4 * (2 * q + i) + 1) (4 * (2 * q + i) + 2) (12 + i * 32) (20 + i * 32) (has 2 (4 * (2 * q + i) + 1) (12 + i * 32) (omega arith) (omega arith) (omega arith)) (has 2 (4 * (2 * q + i) + 2) (20 + i * 32) (omega arith) (omega arith) (omega arith)) (middle-both P q low f 3 (2 * q + i) (omega arith) (omega arith) (omega arith) (omega arith)) };
-    four = record { at = λ i l. alike (4 * (1 * q + i) + 1) (4 * (1 * q + i) + 2) (24 + i * 64) (40 + i * 64) (has 3 (4 * (1 * q + i) + 1) (24 + i * 64) (omega arith) (omega arith) (omega arith)) (has 3 (4 * (1 * q + i) + 2) (40 + i * 64) (omega arith) (omega arith) (omega arith)) (middle-both P q low f 2 (1 * q + i) (omega arith) (omega arith) (omega arith) (omega arith)) };
-    outer-one = record { at = λ i l. alike (16 * (2 * q + i) + 4) (16 * (2 * q + i) + 11) (9 + i * 32) (23 + i * 32) (has 0 (16 * (2 * q + i) + 4) (9 + i * 32) (omega arith) (omega arith) (omega arith)) (has 0 (16 * (2 * q + i) + 11) (23 + i * 32) (omega arith) (omega arith) (omega arith)) (outer-both P q low f 5 (2 * q + i) (omega arith) (omega arith) (omega arith) (omega arith)) };
-    outer-two = record { at = λ i l. alike (16 * (1 * q + i) + 4) (16 * (1 * q + i) + 11) (18 + i * 64) (46 + i * 64) (has 1 (16 * (1 * q + i) + 4) (18 + i * 64) (omega arith) (omega arith) (omega arith)) (has 1 (16 * (1 * q + i) + 11) (46 + i * 64) (omega arith) (omega arith) (omega arith)) (outer-both P q low f 4 (1 * q + i) (omega arith) (omega arith) (omega arith) (omega arith)) };
-    inner-one = record { at = λ i l. alike (16 * (2 * q + i) + 7) (16 * (2 * q + i) + 8) (15 + i * 32) (17 + i * 32) (has 0 (16 * (2 * q + i) + 7) (15 + i * 32) (omega arith) (omega arith) (omega arith)) (has 0 (16 * (2 * q + i) + 8) (17 + i * 32) (omega arith) (omega arith) (omega arith)) (inner-both P q low f 5 (2 * q + i) (omega arith) (omega arith) (omega arith) (omega arith)) };
-    inner-two = record { at = λ i l. alike (16 * (1 * q + i) + 7) (16 * (1 * q + i) + 8) (30 + i * 64) (34 + i * 64) (has 1 (16 * (1 * q + i) + 7) (30 + i * 64) (omega arith) (omega arith) (omega arith)) (has 1 (16 * (1 * q + i) + 8) (34 + i * 64) (omega arith) (omega arith) (omega arith)) (inner-both P q low f 4 (1 * q + i) (omega arith) (omega arith) (omega arith) (omega arith)) };
+  inner-up s = record {
+    middle = λ k x y.
+        let t : ℕ = 3 - k in
+        pair-up t k 2 1 2 (omega arith) (omega arith) (omega arith) (subst (λ j. Same (2 ^ j) (8 * 2 ^ t) (3 * 2 ^ t) (5 * 2 ^ t) b) (let g : 3 - t ≡ k = omega arith in g) (s .middle t (omega arith)));
+    outer = pair-up 0 1 4 4 11 refl (omega arith) (omega arith) (s .outer);
+    inner = pair-up 0 1 4 7 8 refl (omega arith) (omega arith) (s .inner);
   }
+
+  pub up-inner : InnerBoth P q → InnerSame b
+  up-inner u = record {
+    middle = λ t l. pair-down t (3 - t) 2 1 2 (omega arith) (omega arith) (omega arith) (u .middle (3 - t) (omega arith) (omega arith));
+    outer = pair-down 0 1 4 4 11 refl (omega arith) (omega arith) (u .outer);
+    inner = pair-down 0 1 4 7 8 refl (omega arith) (omega arith) (u .inner);
+  }
+
+  pub top-up : TopSame b → Pairs P q
+  top-up s = record {
+    middle = pair-up 3 0 2 1 2 refl (omega arith) (omega arith) (s .middle) q (omega arith);
+    outer = pair-up 1 0 4 4 11 refl (omega arith) (omega arith) (s .outer) q (omega arith);
+    inner = pair-up 1 0 4 7 8 refl (omega arith) (omega arith) (s .inner) q (omega arith);
+  }
+
+  pub up-top : Pairs P q → TopSame b
+  up-top u = record {
+    middle = pair-down 3 0 2 1 2 refl (omega arith) (omega arith) (λ m e. subst (λ x. Both P (4 * x + 1) (4 * x + 2)) (own m e) (u .middle));
+    outer = pair-down 1 0 4 4 11 refl (omega arith) (omega arith) (λ m e. subst (λ x. Both P (16 * x + 4) (16 * x + 11)) (own m e) (u .outer));
+    inner = pair-down 1 0 4 7 8 refl (omega arith) (omega arith) (λ m e. subst (λ x. Both P (16 * x + 7) (16 * x + 8)) (own m e) (u .inner));
+  }
+    where
+      own : (m : ℕ) → m / 2 ^ 0 ≡ q → q ≡ m
+      own m e = omega arith
 
   -- the nodes along the long side of q, and of a child of q
   pub outer-whole : Outer P 2 q b
   outer-whole = record {
-    own = has 5 q 32 (omega arith) (omega arith) (omega arith);
-    first = has 3 (4 * q) 8 (omega arith) (omega arith) (omega arith);
-    last = has 3 (4 * q + 3) 56 (omega arith) (omega arith) (omega arith);
-    first-first = has 1 (16 * q) 2 (omega arith) (omega arith) (omega arith);
-    first-last = has 1 (16 * q + 3) 14 (omega arith) (omega arith) (omega arith);
-    last-first = has 1 (16 * q + 12) 50 (omega arith) (omega arith) (omega arith);
-    last-last = has 1 (16 * q + 15) 62 (omega arith) (omega arith) (omega arith);
+    own = lane 5 0 0 refl q 0 0 32 64 (omega arith) (omega arith) (omega arith) refl refl;
+    first = lane 3 0 2 refl (4 * q) 0 0 8 64 (omega arith) (omega arith) (omega arith) refl refl;
+    last = lane 3 0 2 refl (4 * q + 3) 3 0 56 64 (omega arith) (omega arith) (omega arith) refl refl;
+    first-first = lane 1 0 4 refl (16 * q) 0 0 2 64 (omega arith) (omega arith) (omega arith) refl refl;
+    first-last = lane 1 0 4 refl (16 * q + 3) 3 0 14 64 (omega arith) (omega arith) (omega arith) refl refl;
+    last-first = lane 1 0 4 refl (16 * q + 12) 12 0 50 64 (omega arith) (omega arith) (omega arith) refl refl;
+    last-last = lane 1 0 4 refl (16 * q + 15) 15 0 62 64 (omega arith) (omega arith) (omega arith) refl refl;
   }
 
   pub outer-half : (n : ℕ) → n / 2 ≡ q → Outer P 1 n (b / 2 ^ (32 * (n % 2)))
   outer-half n h = record {
-    own = up n 16 (has 4 n (32 * (n % 2) + 16) (omega arith) (omega arith) (omega arith));
-    first = up (4 * n) 4 (has 2 (4 * n) (32 * (n % 2) + 4) (omega arith) (omega arith) (omega arith));
-    last = up (4 * n + 3) 28 (has 2 (4 * n + 3) (32 * (n % 2) + 28) (omega arith) (omega arith) (omega arith));
-    first-first = up (16 * n) 1 (has 0 (16 * n) (32 * (n % 2) + 1) (omega arith) (omega arith) (omega arith));
-    first-last = up (16 * n + 3) 7 (has 0 (16 * n + 3) (32 * (n % 2) + 7) (omega arith) (omega arith) (omega arith));
-    last-first = up (16 * n + 12) 25 (has 0 (16 * n + 12) (32 * (n % 2) + 25) (omega arith) (omega arith) (omega arith));
-    last-last = up (16 * n + 15) 31 (has 0 (16 * n + 15) (32 * (n % 2) + 31) (omega arith) (omega arith) (omega arith));
+    own = up n 16 (lane 4 1 0 refl n 0 (n % 2) 16 32 (omega arith) (omega arith) (omega arith) refl refl);
+    first = up (4 * n) 4 (lane 2 1 2 refl (4 * n) 0 (n % 2) 4 32 (omega arith) (omega arith) (omega arith) refl refl);
+    last = up (4 * n + 3) 28 (lane 2 1 2 refl (4 * n + 3) 3 (n % 2) 28 32 (omega arith) (omega arith) (omega arith) refl refl);
+    first-first = up (16 * n) 1 (lane 0 1 4 refl (16 * n) 0 (n % 2) 1 32 (omega arith) (omega arith) (omega arith) refl refl);
+    first-last = up (16 * n + 3) 7 (lane 0 1 4 refl (16 * n + 3) 3 (n % 2) 7 32 (omega arith) (omega arith) (omega arith) refl refl);
+    last-first = up (16 * n + 12) 25 (lane 0 1 4 refl (16 * n + 12) 12 (n % 2) 25 32 (omega arith) (omega arith) (omega arith) refl refl);
+    last-last = up (16 * n + 15) 31 (lane 0 1 4 refl (16 * n + 15) 15 (n % 2) 31 32 (omega arith) (omega arith) (omega arith) refl refl);
   }
     where
-      up : (m p : ℕ) → P m ↔ (digit b (32 * (n % 2) + p) ≡ 1) → P m ↔ (digit (b / 2 ^ (32 * (n % 2))) p ≡ 1)
-      up m p f = (λ x. digit-shift b (32 * (n % 2)) p ∙ f .0 x, λ x. f .1 (sym (digit-shift b (32 * (n % 2)) p) ∙ x))
+      up : (m p : ℕ) → P m ↔ (digit b (p + n % 2 * 32) ≡ 1) → P m ↔ (digit (b / 2 ^ (32 * (n % 2))) p ≡ 1)
+      up m p f =
+          let e : digit (b / 2 ^ (32 * (n % 2))) p ≡ digit b (p + n % 2 * 32) = digit-shift b (32 * (n % 2)) p ∙ ap (digit b) (omega arith) in
+          (λ x. e ∙ f .0 x, λ x. f .1 (sym e ∙ x))
 
 -- ---- across the long side of m
 
@@ -485,25 +330,33 @@ module _ {P : ℕ → Type 0} {s m w : ℕ} (low : 2 ≤ m) (o : Outer P s m w) 
 
       pub mirrored-across : Mirrored s w x → OuterAcross P m
       mirrored-across r = record {
-        own = there m e (16 * s) (16 * s) refl (o .own) (y .own) (r .own);
-        first = there (4 * m) (4 * e + 3) (4 * s) (28 * s) edge-own-4 (o .first) (y .last) (r .first);
-        last = there (4 * m + 3) (4 * e) (28 * s) (4 * s) edge-own-7 (o .last) (y .first) (r .last);
-        first-first = there (16 * m) (16 * e + 15) s (31 * s) edge-16 (o .first-first) (y .last-last) (r .first-first);
-        first-last = there (16 * m + 3) (16 * e + 12) (7 * s) (25 * s) edge-19 (o .first-last) (y .last-first) (r .first-last);
-        last-first = there (16 * m + 12) (16 * e + 3) (25 * s) (7 * s) edge-28 (o .last-first) (y .first-last) (r .last-first);
-        last-last = there (16 * m + 15) (16 * e) (31 * s) s edge-31 (o .last-last) (y .first-first) (r .last-last);
+        own = there m e (16 * s) (16 * s) refl (o .own) (y .own) (r .own .there);
+        first = there (4 * m) (4 * e + 3) (4 * s) (28 * s) edge-own-4 (o .first) (y .last) (r .outer .there);
+        last = there (4 * m + 3) (4 * e) (28 * s) (4 * s) edge-own-7 (o .last) (y .first) (r .outer .back);
+        first-first = there (16 * m) (16 * e + 15) s (31 * s) edge-16 (o .first-first) (y .last-last) (r .outermost .there);
+        first-last = there (16 * m + 3) (16 * e + 12) (7 * s) (25 * s) edge-19 (o .first-last) (y .last-first) (r .next .there);
+        last-first = there (16 * m + 12) (16 * e + 3) (25 * s) (7 * s) edge-28 (o .last-first) (y .first-last) (r .next .back);
+        last-last = there (16 * m + 15) (16 * e) (31 * s) s edge-31 (o .last-last) (y .first-first) (r .outermost .back);
       }
 
       pub across-mirrored : OuterAcross P m → Mirrored s w x
-      across-mirrored r = record {
-        own = back m e (16 * s) (16 * s) refl z (o .own) (y .own) (r .own);
-        first = back (4 * m) (4 * e + 3) (4 * s) (28 * s) edge-own-4 (omega (arith, edge-own-4)) (o .first) (y .last) (r .first);
-        last = back (4 * m + 3) (4 * e) (28 * s) (4 * s) edge-own-7 (omega (arith, edge-own-7)) (o .last) (y .first) (r .last);
-        first-first = back (16 * m) (16 * e + 15) s (31 * s) edge-16 (omega (arith, edge-16)) (o .first-first) (y .last-last) (r .first-first);
-        first-last = back (16 * m + 3) (16 * e + 12) (7 * s) (25 * s) edge-19 (omega (arith, edge-19)) (o .first-last) (y .last-first) (r .first-last);
-        last-first = back (16 * m + 12) (16 * e + 3) (25 * s) (7 * s) edge-28 (omega (arith, edge-28)) (o .last-first) (y .first-last) (r .last-first);
-        last-last = back (16 * m + 15) (16 * e) (31 * s) s edge-31 (omega (arith, edge-31)) (o .last-last) (y .first-first) (r .last-last);
-      }
+      across-mirrored r =
+          let own = back m e (16 * s) (16 * s) refl z (o .own) (y .own) (r .own) in
+          record {
+            own = record { there = own; back = own };
+            outer = record {
+              there = back (4 * m) (4 * e + 3) (4 * s) (28 * s) edge-own-4 (omega (arith, edge-own-4)) (o .first) (y .last) (r .first);
+              back = back (4 * m + 3) (4 * e) (28 * s) (4 * s) edge-own-7 (omega (arith, edge-own-7)) (o .last) (y .first) (r .last);
+            };
+            outermost = record {
+              there = back (16 * m) (16 * e + 15) s (31 * s) edge-16 (omega (arith, edge-16)) (o .first-first) (y .last-last) (r .first-first);
+              back = back (16 * m + 15) (16 * e) (31 * s) s edge-31 (omega (arith, edge-31)) (o .last-last) (y .first-first) (r .last-last);
+            };
+            next = record {
+              there = back (16 * m + 3) (16 * e + 12) (7 * s) (25 * s) edge-19 (omega (arith, edge-19)) (o .first-last) (y .last-first) (r .first-last);
+              back = back (16 * m + 12) (16 * e + 3) (25 * s) (7 * s) edge-28 (omega (arith, edge-28)) (o .last-first) (y .first-last) (r .last-first);
+            };
+          }
 
 -- ---- the word
 
@@ -520,16 +373,18 @@ module _ (D e : ℕ) (h : e + 6 ≡ D) (l : D ≤ 17) (bs : List ℕ) (q : ℕ) 
       (λ p. same ∙ s .0 p, λ p. s .1 (sym same ∙ p))
 
   pub cut-word : CutWord (Cut D (leafBit D bs)) q word
-  cut-word = record { names = names }
-    where
-      names : (t c : ℕ) → t ≤ 5 → c < 2 ^ (5 - t) → Cut D (leafBit D bs) (2 ^ (5 - t) * q + c) ↔ (digit word (2 ^ t * (2 * c + 1)) ≡ 1)
-      names zero c i g = names-bit (e + 5) 0 (32 * q + c) (1 * (2 * c + 1)) (at-from (omega (arith, pow-add 2 e 5, a)) (omega (arith, pow-add 2 e 5, pow-next (e + 5), at-below a, pow-next e))) (omega arith) (omega arith) (omega arith)
-      names (suc zero) c i g = names-bit (e + 4) 1 (16 * q + c) (2 * (2 * c + 1)) (at-from (omega (arith, pow-add 2 e 4, a)) (omega (arith, pow-add 2 e 4, pow-next (e + 4), at-below a, pow-next e))) (omega arith) (omega arith) (omega arith)
-      names (suc (suc zero)) c i g = names-bit (e + 3) 2 (8 * q + c) (4 * (2 * c + 1)) (at-from (omega (arith, pow-add 2 e 3, a)) (omega (arith, pow-add 2 e 3, pow-next (e + 3), at-below a, pow-next e))) (omega arith) (omega arith) (omega arith)
-      names (suc (suc (suc zero))) c i g = names-bit (e + 2) 3 (4 * q + c) (8 * (2 * c + 1)) (at-from (omega (arith, pow-add 2 e 2, a)) (omega (arith, pow-add 2 e 2, pow-next (e + 2), at-below a, pow-next e))) (omega arith) (omega arith) (omega arith)
-      names (suc (suc (suc (suc zero)))) c i g = names-bit (e + 1) 4 (2 * q + c) (16 * (2 * c + 1)) (at-from (omega (arith, pow-add 2 e 1, a)) (omega (arith, pow-add 2 e 1, pow-next (e + 1), at-below a, pow-next e))) (omega arith) (omega arith) (omega arith)
-      names (suc (suc (suc (suc (suc zero))))) c i g = names-bit (e + 0) 5 (1 * q + c) (32 * (2 * c + 1)) (at-from (omega (arith, pow-add 2 e 0, a)) (omega (arith, pow-add 2 e 0, pow-next (e + 0), at-below a, pow-next e))) (omega arith) (omega arith) (omega arith)
-      names (suc (suc (suc (suc (suc (suc t)))))) c i g = absurd (omega arith)
+  cut-word = record {
+    names = λ t c i g.
+        let s : ℕ = 2 ^ t in
+        let w : ℕ = 2 ^ (5 - t) in
+        let n : ℕ = w * q + c in
+        let all : w * s ≡ 32 = sym (pow-add 2 (5 - t) t) ∙ ap (λ x. 2 ^ x) {x = 5 - t + t} {y = 5} (omega arith) in
+        let below : At (e + (5 - t)) n = at-from (omega (arith, pow-add 2 e (5 - t), mul-comm w q, mul-le-mul-right {m = 2 ^ e} {n = q} w (a .low))) (omega (arith, pow-next (e + (5 - t)), pow-add 2 e (5 - t), mul-comm w q, mul-le-mul-right {m = q + 1} {n = 2 * 2 ^ e} w (omega (arith, at-below a, pow-next e)), add-mul q 1 w, mul-assoc 2 (2 ^ e) w)) in
+        let odd : (2 * c + 1) * s ≡ s * (2 * c + 1) = mul-comm (2 * c + 1) s in
+        let small : s * (2 * c + 1) < 64 = omega (arith, odd, add-mul (2 * c) 1 s, mul-assoc 2 c s, mul-le-mul-right {m = c + 1} {n = w} s (omega arith), add-mul c 1 s, pow-pos t) in
+        let place : (2 * n + 1) * s ≡ 64 * q + s * (2 * c + 1) = ap (λ x. x * s) (let r : 2 * n + 1 ≡ 2 * (w * q) + (2 * c + 1) = omega arith in r) ∙ add-mul (2 * (w * q)) (2 * c + 1) s ∙ omega (arith, odd, mul-assoc 2 (w * q) s, mul-comm w q, ap (λ x. x * s) (mul-comm w q), mul-assoc q w s, ap (λ x. q * x) all) in
+        names-bit (e + (5 - t)) t n (s * (2 * c + 1)) below (omega arith) small place;
+  }
 
 -- its place, as the code computes it
 pub record Below (D q len : ℕ) : Type 0 where
@@ -555,6 +410,10 @@ below {D} {q} r l h =
 pub good-all : {D : ℕ} {f : ℕ → ℕ} → GoodCuts (Cut D f) → AllFollow D f
 good-all {D} {f} G p h l s = good-follows G (place-cut D f l h s)
 
+-- a cut node follows where all places do
+pub cut-follows : {D : ℕ} {f : ℕ → ℕ} → AllFollow D f → (n : ℕ) → Cut D f n → Follows (Cut D f) n
+cut-follows {D} {f} all n c = subst (Follows (Cut D f)) (c .names) (all (c .place) (c .high) (c .low) (c .set))
+
 -- a place is the first of its word, or names one of the nodes below its word's node
 module _ (D : ℕ) (f : ℕ → ℕ) (low : 7 ≤ D) (high : D ≤ 17) where
   deep : 2 ^ D ≡ 64 * 2 ^ (D - 6)
@@ -567,14 +426,16 @@ module _ (D : ℕ) (f : ℕ → ℕ) (low : 7 ≤ D) (high : D ≤ 17) where
       at = all (p / 64) (omega (arith, deep))
 
       inside : p % 64 ≢ 0 → (j n : ℕ) → 2 ^ D + p ≡ (2 * n + 1) * 2 ^ j → Cut D f n → Follows (Cut D f) n
-      inside z zero n e c = at .below 5 n (omega arith) (omega (arith, deep)) c
-      inside z (suc zero) n e c = at .below 4 n (omega arith) (omega (arith, deep)) c
-      inside z (suc (suc zero)) n e c = at .below 3 n (omega arith) (omega (arith, deep)) c
-      inside z (suc (suc (suc zero))) n e c = at .below 2 n (omega arith) (omega (arith, deep)) c
-      inside z (suc (suc (suc (suc zero)))) n e c = at .below 1 n (omega arith) (omega (arith, deep)) c
-      inside z (suc (suc (suc (suc (suc zero))))) n e c = at .below 0 n (omega arith) (omega (arith, deep)) c
-      inside z (suc (suc (suc (suc (suc (suc j)))))) n e c =
-          absurd (z (omega (arith, deep, first-suc (suc (suc (suc (suc (suc j))))) (2 * n + 1), first-suc (suc (suc (suc (suc j)))) (2 * n + 1), first-suc (suc (suc (suc j))) (2 * n + 1), first-suc (suc (suc j)) (2 * n + 1), first-suc (suc j) (2 * n + 1), first-suc j (2 * n + 1))))
+      inside z j n e c = next (decLe j 5)
+        where
+          next : Dec (j ≤ 5) → Follows (Cut D f) n
+          next (yes r) =
+              let up : n / 2 ^ (5 - j) ≡ (2 ^ D + p) / 64 = ap (λ x. x / 2 ^ (5 - j)) (let g : n ≡ (2 * n + 1) / 2 ^ 1 = omega arith in g) ∙ ap (λ x. x / 2 ^ 1 / 2 ^ (5 - j)) (sym (shl-shr (2 * n + 1) j)) ∙ ap (λ x. x / 2 ^ (5 - j)) (shr-shr ((2 * n + 1) * 2 ^ j) j 1) ∙ shr-shr ((2 * n + 1) * 2 ^ j) (j + 1) (5 - j) ∙ ap₂ (λ x y. x / 2 ^ y) (sym e) (let g : j + 1 + (5 - j) ≡ 6 = omega arith in g) in
+              at .below (5 - j) n (omega arith) (up ∙ omega (arith, deep)) c
+          next (no r) =
+              let k : ℕ = (2 * n + 1) * 2 ^ (j - 6) in
+              let six : (2 * n + 1) * 2 ^ j ≡ k * 64 = ap (λ x. (2 * n + 1) * x) (ap (λ x. 2 ^ x) (let g : j ≡ j - 6 + 6 = omega arith in g) ∙ pow-add 2 (j - 6) 6) ∙ sym (mul-assoc (2 * n + 1) (2 ^ (j - 6)) 64) in
+              absurd (z (omega (arith, deep, six)))
 
       go : Dec (p % 64 ≡ 0) → Follows (Cut D f) (named D p)
       go (yes z) = let e : 64 * (p / 64) ≡ p = omega arith in subst (PlaceFollows D f) e (at .place) l s
@@ -585,4 +446,56 @@ module _ (D : ℕ) (f : ℕ → ℕ) (low : 7 ≤ D) (high : D ≤ 17) where
 
   -- and back: each node that is cut is named by its place
   pub all-blocks : AllFollow D f → (j : ℕ) → j < 2 ^ (D - 6) → BlockFollows D f j
-  all-blocks all j h = record { place = all (64 * j) (omega (arith, deep)); below = λ k n l e c. subst (Follows (Cut D f)) (c .names) (all (c .place) (c .high) (c .low) (c .set)) }
+  all-blocks all j h = record { place = all (64 * j) (omega (arith, deep)); below = λ k n l e c. cut-follows all n c }
+
+-- ---- the one word of a panel of depth up to 6
+
+module _ (D : ℕ) (f : ℕ → ℕ) (high : D ≤ 6) {b : ℕ} (c : CutWord (Cut D f) 1 b) where
+  abbrev P : ℕ → Type 0
+  P = Cut D f
+
+  -- node 1's children stand across from each other, below each half of the word
+  left-half : Outer P 1 2 b
+  left-half = subst (Outer P 1 2) (div-one b) (outer-half c 2 refl)
+
+  right-half : Outer P 1 3 (b / 2 ^ 32)
+  right-half = outer-half c 3 refl
+
+  left-edge : edge 2 ≡ 3
+  left-edge = edge-first 2 (omega arith) (omega arith)
+
+  right-edge : edge 3 ≡ 2
+  right-edge = edge-first 3 (omega arith) (omega arith)
+
+  pub root-all : RootFollows b → AllFollow D f
+  root-all r p h l s =
+      let (j, n, x) = place-name D p l h in
+      let e = names-named D p j n (omega arith) x in
+      let d : ℕ = x .depth in
+      let i : ℕ = n - 2 ^ d in
+      let top : n / 2 ^ d ≡ 1 = ap (λ m. m / 2 ^ d) (let g : n ≡ 2 ^ d * 1 + i = omega (arith, x .at .low) in g) ∙ down 1 d (omega (arith, at-below (x .at), pow-next d)) in
+      subst (Follows P) (sym e) (below d n (omega (arith, x .levels)) top (subst P e (place-cut D f l h s)))
+    where
+      in' : InnerBoth P 1
+      in' = inner-up c (r .inner)
+
+      left : OuterAcross P 2
+      left = mirrored-across (omega arith) left-half (omega (arith, left-edge)) (subst (λ m. Outer P 1 m (b / 2 ^ 32)) (sym left-edge) right-half) (r .there)
+
+      right : OuterAcross P 3
+      right = mirrored-across (omega arith) right-half (omega (arith, right-edge)) (subst (λ m. Outer P 1 m b) (sym right-edge) left-half) (r .back)
+
+      below : BelowFollow P 1
+      below = below-follow P 1 (parents-up c (r .parents)) (λ g. absurd (omega arith))
+          (levels P 1 (root-across P (λ m e. in' .middle 2 (omega arith) (omega arith) m e)) (half-across P 1 (omega arith) in' 2 (omega arith) left) (half-across P 1 (omega arith) in' 3 (omega arith) right))
+
+  pub all-root : AllFollow D f → RootFollows b
+  all-root all = record {
+    parents = up-parents c (ups P 1 (omega arith) below);
+    inner = up-inner c (all-both P 1 (omega arith) below);
+    there = across-mirrored (omega arith) left-half (omega (arith, left-edge)) (subst (λ m. Outer P 1 m (b / 2 ^ 32)) (sym left-edge) right-half) (outer-at P 1 (omega arith) below 1 2 (omega arith) (omega arith) (omega arith));
+    back = across-mirrored (omega arith) right-half (omega (arith, right-edge)) (subst (λ m. Outer P 1 m b) (sym right-edge) left-half) (outer-at P 1 (omega arith) below 1 3 (omega arith) (omega arith) (omega arith));
+  }
+    where
+      below : BelowFollow P 1
+      below k n l e x = cut-follows all n x

@@ -4,6 +4,8 @@ pub mod NodeSums
 pub mod Places
 pub mod Following
 pub mod Naming
+pub mod Masks
+pub mod Crossing
 pub mod LeafWords
 pub mod Spreading
 pub mod Leaves

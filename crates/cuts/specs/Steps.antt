@@ -48,28 +48,26 @@ pub record Under (n v a p b : ℕ) : Type 0 where
 pub record Same (n v a p b : ℕ) : Type 0 where
   pub at : (i : ℕ) → i < n → digit b (a + i * v) ≡ digit b (p + i * v)
 
--- each bit of b but the first and q's is set only beside its parent's
+-- in words of 4 s bits: the bits s and 3 s of two children are set only where bit 2 s of their parent is
 pub record Beside (n s b : ℕ) : Type 0 where
   pub left : Under n (4 * s) s (2 * s) b
   pub right : Under n (4 * s) (3 * s) (2 * s) b
 
-pub record ParentsBeside (b : ℕ) : Type 0 where
-  pub one : Beside 16 1 b
-  pub two : Beside 8 2 b
-  pub three : Beside 4 4 b
-  pub four : Beside 2 8 b
-  pub five : Beside 1 16 b
+-- so each node below q is cut only where its parent is: those whose bits are odd multiples of 2 ^ t, for each t
+abbrev pub ParentsBeside : ℕ → Type 0
+ParentsBeside b = (t : ℕ) → t < 5 → Beside (2 ^ (4 - t)) (2 ^ t) b
 
--- nodes that stand across from each other below q: 4m + 1 and 4m + 2, and 16m + 4 and 16m + 11, 16m + 7 and 16m + 8
+-- nodes that stand across from each other below a node m below q: 4m + 1 and 4m + 2, 16m + 4 and 16m + 11, 16m + 7 and 16m + 8
 pub record InnerSame (b : ℕ) : Type 0 where
-  pub one : Same 8 8 3 5 b
-  pub two : Same 4 16 6 10 b
-  pub three : Same 2 32 12 20 b
-  pub four : Same 1 64 24 40 b
-  pub outer-one : Same 2 32 9 23 b
-  pub inner-one : Same 2 32 15 17 b
-  pub outer-two : Same 1 64 18 46 b
-  pub inner-two : Same 1 64 30 34 b
+  pub middle : (t : ℕ) → t < 3 → Same (2 ^ (3 - t)) (8 * 2 ^ t) (3 * 2 ^ t) (5 * 2 ^ t) b
+  pub outer : Same 2 32 9 23 b
+  pub inner : Same 2 32 15 17 b
+
+-- .. and those for which m is q
+pub record TopSame (b : ℕ) : Type 0 where
+  pub middle : Same 1 64 24 40 b
+  pub outer : Same 1 64 18 46 b
+  pub inner : Same 1 64 30 34 b
 
 -- seven nodes along the long side of m: m, and the outer two of four, and of these again. Their bits in w stand s apart, or a multiple of it
 pub record Outer (P : ℕ → Type 0) (s m w : ℕ) : Type 0 where
@@ -81,15 +79,24 @@ pub record Outer (P : ℕ → Type 0) (s m w : ℕ) : Type 0 where
   pub last-first : P (16 * m + 12) ↔ (digit w (25 * s) ≡ 1)
   pub last-last : P (16 * m + 15) ↔ (digit w (31 * s) ≡ 1)
 
+-- bit a of w is set only where bit c of x is, and bit c of w only where bit a of x is
+pub record Crossed (w x a c : ℕ) : Type 0 where
+  pub there : digit w a ≤ digit x c
+  pub back : digit w c ≤ digit x a
+
 -- across the long side they stand in the other order
 pub record Mirrored (s w x : ℕ) : Type 0 where
-  pub own : digit w (16 * s) ≤ digit x (16 * s)
-  pub first : digit w (4 * s) ≤ digit x (28 * s)
-  pub last : digit w (28 * s) ≤ digit x (4 * s)
-  pub first-first : digit w s ≤ digit x (31 * s)
-  pub first-last : digit w (7 * s) ≤ digit x (25 * s)
-  pub last-first : digit w (25 * s) ≤ digit x (7 * s)
-  pub last-last : digit w (31 * s) ≤ digit x s
+  pub own : Crossed w x (16 * s) (16 * s)
+  pub outer : Crossed w x (4 * s) (28 * s)
+  pub outermost : Crossed w x s (31 * s)
+  pub next : Crossed w x (7 * s) (25 * s)
+
+-- below node 1: what the parts of its word ask of each other. Its children stand across from each other, and their children at the border
+pub record RootFollows (b : ℕ) : Type 0 where
+  pub parents : ParentsBeside b
+  pub inner : InnerSame b
+  pub there : Mirrored 1 b (b / 2 ^ 32)
+  pub back : Mirrored 1 (b / 2 ^ 32) b
 
 -- each of the seven that is cut has none or a cut node across its long side
 pub record OuterAcross (P : ℕ → Type 0) (m : ℕ) : Type 0 where

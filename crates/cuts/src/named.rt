@@ -55,7 +55,7 @@ fn named_node(deep: usize, p: usize, t: u32) -> Node
 }
 
 // Whether the edge neighbour of n, whose children stand `levels` above depth deep, is none or is cut.
-pub fn across_cut(bytes: &[u8], deep: usize, n: Node, levels: usize) -> bool
+fn across_cut(bytes: &[u8], deep: usize, n: Node, levels: usize) -> bool
     requires { ⌜ Room deep (now bytes) × (2 ≤ n .0) × (depthOf (n .0) + 1 + levels ≡ deep) ⌝ }
     ensures { λ r. ⌜ Says (AcrossCut (Cut deep (leafBit deep (now (bytes .entry)))) (n .0)) r ⌝ }
 {

@@ -1,12 +1,16 @@
 // Panels of depth 3 to 6, whose leaf bits fit one number. A panel of depth D has the same cuts as the one of depth 6 whose leaf bit
 // 2^(6-D) p is its leaf bit p, and whose other leaf bits are 0: one level deeper, a node's bit is twice as far.
+use crate::within::inner_same;
+use crate::within::mirrored;
+use crate::within::parents_beside;
 ghost use mathlib.Core.Path.{_≡_};
 ghost use Prim.Native.Nat.{_-_, _*_, _^_, _≤_, _<_};
 ghost use Rattle.bits.specs.Bits.{digit, field};
+ghost use Rattle.nodes.specs.Table.{Says};
 ghost use Rattle.sums.specs.Words.{leafBit, Room};
 ghost use Rattle.sums.specs.Rows.{abreast};
 ghost use Rattle.cuts.specs.Cuts.{Cut};
-ghost use Rattle.cuts.specs.Steps.{CutWord};
+ghost use Rattle.cuts.specs.Steps.{AllFollow, CutWord, RootFollows};
 
 // The leaf bits of a panel of depth up to 6, as one number. They end at byte 2^(D-1), and the bytes before them hold sums.
 fn leaves_of(bytes: &[u8], deep: usize) -> u64
@@ -40,9 +44,31 @@ fn spread(x: u64, deep: usize) -> u64
 }
 
 // The leaf word that node 1 has at depth 6 with the cuts of this panel of depth up to 6.
-pub fn root_word(bytes: &[u8], deep: usize) -> u64
+fn root_word(bytes: &[u8], deep: usize) -> u64
     requires { ⌜ Room deep (now bytes) × (deep ≤ 6) ⌝ }
     ensures { λ r. ⌜ CutWord (Cut deep (leafBit deep (now (bytes .entry)))) 1 r ⌝ }
 {
     spread(leaves_of(bytes, deep), deep)
+}
+
+// Whether b, the leaf word below node 1, has what its parts ask of each other.
+fn root_follows(b: u64) -> bool
+    ensures { λ r. ⌜ Says (RootFollows b) r ⌝ }
+{
+    if parents_beside(b) {
+        if inner_same(b) {
+            if mirrored(b, b >> 32, 1) {
+                return mirrored(b >> 32, b, 1);
+            }
+        }
+    }
+    false
+}
+
+// Whether all nodes that are cut may be.
+pub fn shallow_follow(bytes: &[u8], deep: usize) -> bool
+    requires { ⌜ Room deep (now bytes) × (deep ≤ 6) ⌝ }
+    ensures { λ r. ⌜ Says (AllFollow deep (leafBit deep (now (bytes .entry)))) r ⌝ }
+{
+    root_follows(root_word(bytes, deep))
 }

@@ -1,10 +1,10 @@
 -- The bits of the words, masked, are compared word by word.
 use native.Mathlib.Omega.{arith}
 use Rattle.nodes.proofs.Tables.{says-equal}
-use Rattle.cuts.proofs.LeafWords.{same-is, is-same}
+use Rattle.cuts.proofs.Masks.{same-is, is-same}
 use borrow.Author.Needs.{needs}
-use Rattle.cuts.proofs.blocks.same.Statement.{statement}
-use Rattle.cuts.proofs.blocks.same.Tie as tie
+use Rattle.cuts.proofs.within.same.Statement.{statement}
+use Rattle.cuts.proofs.within.same.Tie as tie
 
 shr-result : tie.Need-shr-result
 shr-result c = search needs

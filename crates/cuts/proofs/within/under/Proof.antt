@@ -1,10 +1,10 @@
 -- The bits of the words, masked, are compared word by word.
 use native.Mathlib.Omega.{arith}
 use Rattle.nodes.proofs.Tables.{says-equal}
-use Rattle.cuts.proofs.LeafWords.{under-is, is-under}
+use Rattle.cuts.proofs.Masks.{under-is, is-under}
 use borrow.Author.Needs.{needs}
-use Rattle.cuts.proofs.blocks.under.Statement.{statement}
-use Rattle.cuts.proofs.blocks.under.Tie as tie
+use Rattle.cuts.proofs.within.under.Statement.{statement}
+use Rattle.cuts.proofs.within.under.Tie as tie
 
 shr-y : tie.Need-shr-y
 shr-y c = search needs

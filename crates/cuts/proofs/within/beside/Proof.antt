@@ -2,8 +2,8 @@
 use native.Mathlib.Omega.{arith}
 use Rattle.nodes.proofs.Tables.{says-no}
 use borrow.Author.Needs.{needs}
-use Rattle.cuts.proofs.blocks.beside.Statement.{statement}
-use Rattle.cuts.proofs.blocks.beside.Tie as tie
+use Rattle.cuts.proofs.within.beside.Statement.{statement}
+use Rattle.cuts.proofs.within.beside.Tie as tie
 
 mul-under : tie.Need-mul-under
 mul-under c = search needs

@@ -6,20 +6,20 @@ use Rattle.nodes.proofs.Depths.{pow-next}
 use Rattle.nodes.proofs.Tables.{says-no}
 use Rattle.cuts.proofs.Following.{follows-good}
 use Rattle.cuts.proofs.LeafWords.{good-all}
-use Rattle.cuts.proofs.blocks.cuts_good.Statement.{statement}
-use Rattle.cuts.proofs.blocks.cuts_good.Tie as tie
+use Rattle.cuts.proofs.good.cuts_good.Statement.{statement}
+use Rattle.cuts.proofs.good.cuts_good.Tie as tie
 
 is-cut-requires : tie.Need-is-cut-requires
 is-cut-requires c κs =
     let a = c .before in
     (a .pre, record { low = omega arith; high = omega (arith, pow-next (a .args .deep), pow-pos (a .args .deep)) })
 
-places-follow-requires : tie.Need-places-follow-requires
-places-follow-requires c κs = search needs
+shallow-follow-requires : tie.Need-shallow-follow-requires
+shallow-follow-requires c κs = search needs
 
 returns : tie.Need-returns
 returns c =
-    let f = c .places-follow .ensures in
+    let f = c .shallow-follow .ensures in
     record {
       yes = λ t. follows-good _ _ (c .before .before .before .is-cut .ensures .yes (c .before .before .if1 .taken)) (λ p l h. f .yes t p h l);
       no = λ t G. f .no t (good-all G);
@@ -42,4 +42,4 @@ returns-3 c = says-no (λ G. c .before .is-cut .ensures .no (c .if1 .left) (G .r
 pub cuts-good-spec : {M : Type 1} → statement M
 cuts-good-spec =
     tie.close
-    (tie.spec is-cut-requires places-follow-requires returns blocks-follow-requires returns-2 returns-3)
+    (tie.spec is-cut-requires shallow-follow-requires returns blocks-follow-requires returns-2 returns-3)
