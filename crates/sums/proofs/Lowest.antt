@@ -8,10 +8,10 @@ use lib.ListN.{length}
 use Rattle.bits.specs.Bits.{bit, field, putField}
 use Rattle.bits.proofs.Laws.{le-or-lt, bit-out, length-putField, field-put-same, field-put-other}
 use Rattle.nodes.proofs.Depths.{pow-next}
-use Rattle.sums.specs.Rows.{SumsBetween, Made, Seven, Sevens}
+use Rattle.sums.specs.Rows.{SumsBetween, Made, PairSums, Seven, Sevens, SevenAt}
 use Rattle.sums.proofs.Slots.{from, from-leaf}
 use Rattle.sums.proofs.Rows.{from-row}
-use Rattle.sums.proofs.Pairs.{pairs-sums}
+use Rattle.sums.proofs.Pairs.{pairs-sums, sums-pairs, pairs-one}
 
 -- ---- seven sums
 
@@ -19,11 +19,19 @@ pub same-seven : {x x' y y' z z' u u' : ℕ} → x ≡ x' → y ≡ y' → z ≡
 same-seven {x} {x'} {y} {y'} {z} {z'} {u} {u'} p q r s t =
     subst (λ (n : ℕ). Seven x' y' z' n) s (subst (λ (n : ℕ). Seven x' y' n u) r (subst (λ (n : ℕ). Seven x' n z u) q (subst (λ (n : ℕ). Seven n y z u) p t)))
 
--- ---- where they stand
+-- the seven sums over x in one number are those of no other words
+module _ {x n y z u : ℕ} (s : Sevens x n) (hy : y < 256) (hz : z < 64) (hu : u < 16) where
+  pub sevens-are : n ≡ y + 256 * z + 16384 * u → Seven x y z u
+  sevens-are e = same-seven refl (omega arith) (omega arith) (omega arith) (s .right)
 
--- the seven sums over leaf byte j, where a row of m words stands over the three lowest
-abbrev pub SevenAt : ℕ → List ℕ → ℕ → Type 0
-SevenAt m bs j = Seven (field bs (8 * (3 * m + j)) 8) (field bs (8 * (2 * m + j)) 8) (field bs (10 * m + 6 * j) 6) (field bs (6 * m + 4 * j) 4)
+  pub are-sevens : Seven x y z u → n ≡ y + 256 * z + 16384 * u
+  are-sevens t =
+      let a : n % 256 ≡ y = pairs-one 4 1 x (omega arith) hy (s .right .four) (t .four) in
+      let b : n / 256 % 64 ≡ z = pairs-one 2 2 y (omega arith) hz (subst (λ (v : ℕ). PairSums 2 2 v (n / 256 % 64)) a (s .right .two)) (t .two) in
+      let c : n / 16384 ≡ u = pairs-one 1 3 z (omega (arith, s .small)) hu (subst (λ (v : ℕ). PairSums 1 3 v (n / 16384)) b (s .right .one)) (t .one) in
+      omega arith
+
+-- ---- where they stand
 
 module _ (D e : ℕ) (h : e + 3 ≡ D) where
   abbrev m : ℕ
@@ -65,6 +73,16 @@ module _ (D e : ℕ) (h : e + 3 ≡ D) where
           pairs-sums D (e + 1) 2 (omega arith) (omega arith) bs (2 * k) 2 (omega (arith, p1)) (omega (arith, p2)) (s .two),
           pairs-sums D (e + 1 + 1) 1 (omega arith) (omega arith) bs (2 * (2 * k)) 4 (omega (arith, p2)) (omega (arith, p3)) (s .four),
         )
+
+    -- and back
+    pub sums-seven : SumsBetween D bs m (2 ^ D) → SevenAt m bs j
+    sums-seven s =
+        let part : (a b : ℕ) → m ≤ a → b ≤ 8 * m → SumsBetween D bs a b = λ a b x y i lo hi. s i (omega arith) (omega (arith, pow-deep)) in
+        same-seven leaves bottom middle top (record {
+          one = sums-pairs D e 3 (omega arith) (omega arith) bs k 1 (omega arith) (omega (arith, p1)) (part k (k + 1) (omega arith) (omega arith));
+          two = sums-pairs D (e + 1) 2 (omega arith) (omega arith) bs (2 * k) 2 (omega (arith, p1)) (omega (arith, p2)) (part (2 * k) (2 * k + 2) (omega arith) (omega arith));
+          four = sums-pairs D (e + 1 + 1) 1 (omega arith) (omega arith) bs (2 * (2 * k)) 4 (omega (arith, p2)) (omega (arith, p3)) (part (2 * (2 * k)) (2 * (2 * k) + 4) (omega arith) (omega arith));
+        })
 
   -- the three rows are right where all sevens are
   pub sevens-sums : (bs : List ℕ) → ((j : ℕ) → j < m → SevenAt m bs j) → SumsBetween D bs m (2 ^ D)

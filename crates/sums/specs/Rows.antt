@@ -36,6 +36,10 @@ pub record Seven (x y z u : ℕ) : Type 0 where
   pub two : PairSums 2 2 y z
   pub one : PairSums 1 3 z u
 
+-- so stand the sums over leaf bits 8 j to 8 j + 7, where m words are the first of the three lowest rows
+abbrev pub SevenAt : ℕ → List ℕ → ℕ → Type 0
+SevenAt m bs j = Seven (field bs (8 * (3 * m + j)) 8) (field bs (8 * (2 * m + j)) 8) (field bs (10 * m + 6 * j) 6) (field bs (6 * m + 4 * j) 4)
+
 -- the same seven in one number: y in its first eight bits, then z, then u
 pub record Sevens (x n : ℕ) : Type 0 where
   pub small : n < 2 ^ 18

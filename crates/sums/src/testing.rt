@@ -1,10 +1,41 @@
-// Testing all sums: the six lowest rows 64 leaf bits at a time, the others word by word.
+// Testing all sums: from depth 6 on the six lowest rows 64 leaf bits at a time, before it the three lowest rows eight leaf bits at a
+// time; the others word by word.
 ghost use Prim.Native.Nat.{_+_, _-_, _*_, _^_, _≤_, _<_};
 ghost use lib.ListN.{length};
 ghost use Rattle.nodes.specs.Table.{Says};
 ghost use Rattle.sums.specs.Words.{Room};
 ghost use Rattle.sums.specs.Sums.{SumsRight, Right};
-ghost use Rattle.sums.specs.Rows.{SumsBetween, SixAt};
+ghost use Rattle.sums.specs.Rows.{SumsBetween, SevenAt, SixAt};
+
+// Whether the three lowest rows, the highest of m words, are right over the eight leaf bits from bit 8 i on. The leaf bits are the last
+// m bytes of 4 m, and the row above them fills the m bytes before.
+fn seven_right(bytes: &[u8], m: usize, i: usize) -> bool
+    requires { ⌜ (4 * m ≤ length (now bytes)) × (m ≤ 16384) × (i < m) ⌝ }
+    ensures { λ r. ⌜ Says (SevenAt m (now (bytes .entry)) i) r ⌝ }
+{
+    let s = super::sevens::seven(bits::get_byte(bytes, 3 * m + i));
+    let y = bits::get_byte(bytes, 2 * m + i);
+    let z = bits::get_field(bytes, 10 * m + 6 * i, 6);
+    let u = bits::get_field(bytes, 6 * m + 4 * i, 4);
+    s == y + 256 * z + 16384 * u
+}
+
+// Rows deep - 3 to deep - 1.
+fn lowest_three(bytes: &[u8], deep: usize) -> bool
+    requires { ⌜ Room deep (now bytes) ⌝ }
+    ensures { λ r. ⌜ Says (SumsBetween deep (now (bytes .entry)) (2 ^ (deep - 3)) (2 ^ deep)) r ⌝ }
+{
+    let m: usize = 1 << (deep - 3);
+    let mut i: usize = 0;
+    while i < m {
+        if seven_right(bytes, m, i) {
+            i += 1;
+        } else {
+            return false;
+        }
+    }
+    true
+}
 
 // Whether the six lowest rows, the highest of m words, are right over the 64 leaf bits from bit 64 j on.
 fn six_right(bytes: &[u8], m: usize, j: usize) -> bool
@@ -31,7 +62,7 @@ fn six_right(bytes: &[u8], m: usize, j: usize) -> bool
 }
 
 // Rows deep - 6 to deep - 1.
-fn low_rows(bytes: &[u8], deep: usize) -> bool
+fn lowest_six(bytes: &[u8], deep: usize) -> bool
     requires { ⌜ Room deep (now bytes) × (6 ≤ deep) ⌝ }
     ensures { λ r. ⌜ Says (SumsBetween deep (now (bytes .entry)) (2 ^ (deep - 6)) (2 ^ deep)) r ⌝ }
 {
@@ -92,9 +123,12 @@ pub fn sums_right(bytes: &[u8], deep: usize) -> bool
     ensures { λ r. ⌜ Says (SumsRight deep (now (bytes .entry))) r ⌝ }
 {
     if deep < 6 {
-        return high_rows(bytes, deep, deep);
+        if lowest_three(bytes, deep) {
+            return high_rows(bytes, deep, deep - 3);
+        }
+        return false;
     }
-    if low_rows(bytes, deep) {
+    if lowest_six(bytes, deep) {
         return high_rows(bytes, deep, deep - 6);
     }
     false

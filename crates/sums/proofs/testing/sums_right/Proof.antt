@@ -1,38 +1,74 @@
--- The low rows begin where the high rows end.
-use Prim.Native.Nat.{_-_, _^_}
+-- The lowest rows begin where the rows above end.
+use mathlib.Core.Bool.{Bool}
+use mathlib.Core.List.{List}
+use Prim.Native.Nat.{ℕ, _-_, _^_, _≤_}
 use native.Mathlib.Omega.{arith}
 use lib.Pow.{pow-mono, pow-pos}
 use borrow.Author.Needs.{needs}
+use Rattle.nodes.specs.Table.{Says}
 use Rattle.nodes.proofs.Tables.{says-no}
+use Rattle.sums.specs.Sums.{SumsRight}
+use Rattle.sums.specs.Rows.{SumsBetween}
 use Rattle.sums.proofs.Rows.{sums-join}
 use Rattle.sums.proofs.testing.sums_right.Statement.{statement}
 use Rattle.sums.proofs.testing.sums_right.Tie as tie
+
+-- the rows from row e on are tested first
+module _ (D e : ℕ) (h : e ≤ D) (bs : List ℕ) where
+  right : {r : Bool} → SumsBetween D bs (2 ^ e) (2 ^ D) → Says (SumsBetween D bs 1 (2 ^ e)) r → Says (SumsRight D bs) r
+  right low high = record {
+    yes = λ t. sums-join D bs 1 (2 ^ e) (2 ^ D) (high .yes t) low;
+    no = λ f s. high .no f (λ k a b. s k a (omega (arith, pow-mono {i = e} {j = D} h)));
+  }
+
+  part : SumsRight D bs → SumsBetween D bs (2 ^ e) (2 ^ D)
+  part s k a b = s k (omega (arith, pow-pos e)) b
+
+lowest-three-requires : tie.Need-lowest-three-requires
+lowest-three-requires c κs = search needs
+
+sub-high-rows : tie.Need-sub-high-rows
+sub-high-rows c = search needs
 
 high-rows-requires : tie.Need-high-rows-requires
 high-rows-requires c κs = search needs
 
 returns : tie.Need-returns
-returns c = search needs
+returns c =
+    let a = c .before .before .before .before .before .args in
+    right (a .deep) (a .deep - 3) (omega arith) (a .bytes .now) (c .before .before .lowest-three .ensures .yes (c .before .if2 .taken)) (c .high-rows .ensures)
 
-low-rows-requires : tie.Need-low-rows-requires
-low-rows-requires c κs = search needs
+returns-2 : tie.Need-returns-2
+returns-2 c =
+    let a = c .before .before .before .before .args in
+    says-no (λ s. c .before .lowest-three .ensures .no (c .if2 .left) (part (a .deep) (a .deep - 3) (omega arith) (a .bytes .now) s))
+
+lowest-six-requires : tie.Need-lowest-six-requires
+lowest-six-requires c κs = search needs
 
 high-rows-requires-2 : tie.Need-high-rows-requires-2
 high-rows-requires-2 c κs = search needs
 
-returns-2 : tie.Need-returns-2
-returns-2 c =
-    let a = c .before .before .before .before .before .args in
-    let D = a .deep in
-    record {
-      yes = λ e. sums-join D (a .bytes .now) 1 (2 ^ (D - 6)) (2 ^ D) (c .high-rows2 .ensures .yes e) (c .before .before .low-rows .ensures .yes (c .before .if2 .taken));
-      no = λ e s. c .high-rows2 .ensures .no e (λ k lo hi. s k lo (omega (arith, pow-mono {i = D - 6} {j = D} (omega arith))));
-    }
-
 returns-3 : tie.Need-returns-3
-returns-3 c = says-no (λ s. c .before .low-rows .ensures .no (c .if2 .left) (λ k lo hi. s k (omega (arith, pow-pos (c .before .before .before .before .args .deep - 6))) hi))
+returns-3 c =
+    let a = c .before .before .before .before .before .args in
+    right (a .deep) (a .deep - 6) (omega arith) (a .bytes .now) (c .before .before .lowest-six .ensures .yes (c .before .if3 .taken)) (c .high-rows2 .ensures)
+
+returns-4 : tie.Need-returns-4
+returns-4 c =
+    let a = c .before .before .before .before .args in
+    says-no (λ s. c .before .lowest-six .ensures .no (c .if3 .left) (part (a .deep) (a .deep - 6) (omega arith) (a .bytes .now) s))
 
 pub sums-right-spec : {M : Type 1} → statement M
 sums-right-spec =
     tie.close
-    (tie.spec high-rows-requires returns low-rows-requires high-rows-requires-2 returns-2 returns-3)
+    (tie.spec
+    lowest-three-requires
+    sub-high-rows
+    high-rows-requires
+    returns
+    returns-2
+    lowest-six-requires
+    high-rows-requires-2
+    returns-3
+    returns-4)

@@ -1,19 +1,18 @@
 -- The rows are right where they are over each 64 leaf bits.
-use mathlib.Core.Path.{_≡_, subst, subst⁻¹}
-use mathlib.Core.Logic.{⊎-elim}
+use mathlib.Core.Path.{subst, subst⁻¹}
 use Prim.Native.Nat.{ℕ, _-_, _<_}
 use native.Mathlib.Omega.{arith}
 use lib.ListN.{length}
-use Rattle.bits.proofs.Laws.{le-or-lt}
+use borrow.Author.Count.{below-none, below-more}
 use Rattle.nodes.proofs.Tables.{says-yes, says-no}
 use Rattle.sums.specs.Rows.{SixAt}
-use Rattle.sums.proofs.Rooms.{Blocks, blocks, blocksOf}
+use Rattle.sums.proofs.Rooms.{Blocks, blocks}
 use Rattle.sums.proofs.LowSix.{six-sums, sums-six}
-use Rattle.sums.proofs.testing.low_rows.Statement.{statement}
-use Rattle.sums.proofs.testing.low_rows.Tie as tie
+use Rattle.sums.proofs.testing.lowest_six.Statement.{statement}
+use Rattle.sums.proofs.testing.lowest_six.Tie as tie
 
 abbrev Inv-loop : tie.InvT-loop
-Inv-loop bytes deep m j₀ j = Blocks deep (length bytes) m × ((i : ℕ) → i < j → SixAt m bytes i)
+Inv-loop bytes deep m j₀ j = Blocks deep (length bytes) m × ((k : ℕ) → k < j → SixAt m bytes k)
 
 abbrev μ-loop : tie.MeasureT-loop
 μ-loop bytes deep m j₀ j = m - j
@@ -25,7 +24,7 @@ shl-m : tie.Need-shl-m Inv-loop μ-loop
 shl-m c = omega arith
 
 loop-holds : tie.Need-loop-holds Inv-loop μ-loop
-loop-holds c = (blocks (c .before .pre .0) (c .before .pre .1), λ i l. absurd (omega arith))
+loop-holds c = (blocks (c .before .pre .0) (c .before .pre .1), below-none _)
 
 six-right-requires : tie.Need-six-right-requires Inv-loop μ-loop
 six-right-requires c κs = omega arith
@@ -39,24 +38,21 @@ loop-less c = omega arith
 loop-again : tie.Need-loop-again Inv-loop μ-loop
 loop-again c =
     let l = c .before .before .before .loop in
-    let a = c .before .before .before .before .before .args in
-    (l .inv .0, λ i h. ⊎-elim (λ x. let e : l .j ≡ i = omega arith in subst (SixAt (blocksOf (a .deep)) (a .bytes .now)) e (c .before .six-right .ensures .yes (c .if1 .taken))) (l .inv .1 i) (le-or-lt (l .j) i))
+    (l .inv .0, below-more _ _ (l .inv .1) (c .before .six-right .ensures .yes (c .if1 .taken)))
 
 returns : tie.Need-returns Inv-loop μ-loop
 returns c =
     let l = c .before .before .before .loop in
     let a = c .before .before .before .before .before .args in
-    let e = l .inv .0 .is in
-    says-no (λ s. c .before .six-right .ensures .no (c .if1 .left) (subst⁻¹ (λ (m : ℕ). SixAt m (a .bytes .now) (l .j)) e (sums-six (a .deep) (a .deep - 6) (omega arith) (a .bytes .now) (l .j) (omega arith) s)))
+    says-no (λ s. c .before .six-right .ensures .no (c .if1 .left) (subst⁻¹ (λ (m : ℕ). SixAt m (a .bytes .now) (l .j)) (l .inv .0 .is) (sums-six (a .deep) (a .deep - 6) (omega arith) (a .bytes .now) (l .j) (omega arith) s)))
 
 returns-2 : tie.Need-returns-2 Inv-loop μ-loop
 returns-2 c =
     let l = c .before .loop in
     let a = c .before .before .before .args in
-    let e = l .inv .0 .is in
-    says-yes (six-sums (a .deep) (a .deep - 6) (omega arith) (a .bytes .now) (λ j h. subst (λ (m : ℕ). SixAt m (a .bytes .now) j) e (l .inv .1 j (omega arith))))
+    says-yes (six-sums (a .deep) (a .deep - 6) (omega arith) (a .bytes .now) (λ k h. subst (λ (m : ℕ). SixAt m (a .bytes .now) k) (l .inv .0 .is) (l .inv .1 k (omega arith))))
 
-pub low-rows-spec : {M : Type 1} → statement M
-low-rows-spec =
+pub lowest-six-spec : {M : Type 1} → statement M
+lowest-six-spec =
     tie.close
     (tie.spec Inv-loop μ-loop sub-m shl-m loop-holds six-right-requires add-j loop-less loop-again returns returns-2)
