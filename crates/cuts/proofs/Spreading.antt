@@ -1,25 +1,26 @@
 -- A panel of depth D up to 6 has the cuts of a word of 64 leaf bits, in which leaf bit p stands at 2 ^ (6 - D) p and the bits between are 0.
 use mathlib.Core.Path.{_≡_, refl, sym, ap, ap₂, _∙_, subst}
-use mathlib.Core.Logic.{_↔_}
+use mathlib.Core.Logic.{_↔_, ⊎-elim}
 use mathlib.Core.List.{List}
 use Prim.Native.Nat.{ℕ, zero, suc, _+_, _-_, _*_, _/_, _%_, _^_, _≤_, _<_}
-use native.Mathlib.Nat.{mod-lt, mod-eq-of-lt, mul-one, one-mul, mul-comm, mul-assoc, mul-left-comm, mul-add, add-mul, mul-pos, mul-lt-mul-of-pos-left, pow-succ', div-one}
+use native.Mathlib.Nat.{mod-lt, mod-eq-of-lt, mul-one, one-mul, mul-comm, mul-assoc, mul-left-comm, mul-add, add-mul, mul-pos, mul-lt-mul-of-pos-left, pow-succ', div-one, le-dest}
 use native.Mathlib.Decide.{decLe}
 use native.Mathlib.Omega.{arith}
-use lib.Pow.{pow-pos, pow-add, pow-mono, split, shr-lt}
+use lib.Pow.{pow-pos, pow-lt, pow-add, pow-mono, split, shr-lt, shl-shr}
 use lib.Bits.{bitAnd}
 use lib.ListN.{length}
 use Rattle.bits.specs.Bits.{digit, bit, field}
-use Rattle.bits.proofs.Laws.{one-shl, run-digit, bit-lt, digit-lt}
-use Rattle.nodes.proofs.Depths.{At, at-from, depth-is, pow-next}
+use Rattle.bits.proofs.Laws.{one-shl, run-digit, bit-lt, digit-lt, digit-shift, order}
+use Rattle.nodes.proofs.Depths.{At, at-from, at-root, depth-is, pow-next}
 use Rattle.sums.specs.Words.{leafBit, Room}
 use Rattle.sums.specs.Rows.{part, abreast}
 use Rattle.sums.proofs.Abreast.{same-words, abreast-lt, word-digit, times, one-word, halved, ones-halved}
 use Rattle.sums.proofs.Pairs.{field-high}
 use Rattle.sums.proofs.Rooms.{bounds}
-use Rattle.cuts.specs.Cuts.{Cut}
-use Rattle.cuts.specs.Steps.{CutPlace, CutWord}
-use Rattle.cuts.proofs.Places.{cutPlace, cut-depth, cut-place, cut-set}
+use Rattle.cuts.specs.Cuts.{named, Cut}
+use Rattle.cuts.specs.Steps.{CutPlace, Follows, AllFollow, CutWord}
+use Rattle.cuts.proofs.Following.{first-follows}
+use Rattle.cuts.proofs.Places.{names-named, cutPlace, cut-depth, cut-place, cut-set}
 
 -- ---- the leaf bits, in the eight bytes that end with them
 
@@ -321,3 +322,43 @@ module _ (D : ℕ) (h : D ≤ 6) (bs : List ℕ) where
       go : (t c : ℕ) → t ≤ 5 → c < 2 ^ (5 - t) → Dec (gap ≤ t) → Cut D (leafBit D bs) (2 ^ (5 - t) * 1 + c) ↔ (digit word (2 ^ t * (2 * c + 1)) ≡ 1)
       go t c l r (yes g) = names-above t c l r g
       go t c l r (no g) = names-below t c l r (omega arith)
+
+-- ---- node 1 alone is cut
+
+-- the place of its bit less one, as the code computes it
+pub record Alone (D : ℕ) : Type 0 where
+  pub some : 1 ≤ 1 * 2 ^ (D - 1) % 2 ^ 64
+  pub small : 1 * 2 ^ (D - 1) % 2 ^ 64 - 1 < 64
+  pub is : 1 * 2 ^ (1 * 2 ^ (D - 1) % 2 ^ 64 - 1) % 2 ^ 64 ≡ 2 ^ (2 ^ (D - 1) - 1)
+
+pub alone : {D : ℕ} → D ≤ 6 → Alone D
+alone {D} h =
+    let e = one-shl (D - 1) 64 (omega arith) in
+    let l = pow-mono {i = D - 1} {j = 5} (omega arith) in record {
+      some = omega (arith, pow-pos (D - 1));
+      small = omega arith;
+      is = ap (λ x. 1 * 2 ^ (x - 1) % 2 ^ 64) e ∙ one-shl (2 ^ (D - 1) - 1) 64 (omega arith);
+    }
+
+-- the one digit of a power
+pow-digit : (a b : ℕ) → digit (2 ^ a) b ≡ 1 → b ≡ a
+pow-digit a b h = ⊎-elim (λ l. let d = le-dest l in absurd (omega (arith, low (d .0) (d .1)))) (⊎-elim (λ e. e) (λ l. absurd (omega (arith, shr-lt 0 b (pow-lt {i = a} {j = 0 + b} (omega arith)))))) (order b a)
+  where
+    low : (d : ℕ) → suc b + d ≡ a → 2 ^ a / 2 ^ b ≡ 2 * 2 ^ d
+    low d e = ap (λ x. 2 ^ x / 2 ^ b) (let f : a ≡ suc d + b = omega arith in f) ∙ ap (λ x. x / 2 ^ b) (pow-add 2 (suc d) b) ∙ shl-shr (2 ^ suc d) b ∙ pow-succ' 2 d
+
+module _ (D : ℕ) (low : 3 ≤ D) (h : D ≤ 6) (bs : List ℕ) (e : leaves D h bs / 2 ≡ 2 ^ (2 ^ (D - 1) - 1)) where
+  abbrev top : ℕ
+  top = 2 ^ (D - 1)
+
+  root : named D top ≡ 1
+  root = names-named D top (D - 1) 1 (omega arith) (record { depth = 0; levels = omega arith; at = at-root; place = omega (arith, ap (λ x. 2 ^ x) (let f : D ≡ D - 1 + 1 = omega arith in f), pow-next (D - 1)) })
+
+  is-top : (p : ℕ) → 0 < p → p < 2 ^ D → leafBit D bs p ≡ 1 → p ≡ top
+  unfolding leafBit
+  is-top p l r s =
+      let d : digit (leaves D h bs) (1 + (p - 1)) ≡ 1 = ap (digit (leaves D h bs)) (let f : 1 + (p - 1) ≡ p = omega arith in f) ∙ run-digit (bit bs) (bit-lt bs) (3 * 2 ^ D) (2 ^ D) p r ∙ s in
+      omega (arith, pow-digit (top - 1) (p - 1) (sym (ap (λ x. digit x (p - 1)) e) ∙ digit-shift (leaves D h bs) 1 (p - 1) ∙ d), pow-pos (D - 1))
+
+  pub alone-follows : AllFollow D (leafBit D bs)
+  alone-follows p r l s = subst (Follows (Cut D (leafBit D bs))) (sym (ap (named D) (is-top p l r s) ∙ root)) (first-follows (omega arith))

@@ -9,8 +9,7 @@ ghost use Rattle.bits.specs.Bits.{digit, field};
 ghost use Rattle.nodes.specs.Table.{Says};
 ghost use Rattle.sums.specs.Words.{leafBit, Room};
 ghost use Rattle.sums.specs.Rows.{abreast};
-ghost use Rattle.cuts.specs.Cuts.{Cut};
-ghost use Rattle.cuts.specs.Steps.{AllFollow, CutWord, RootFollows};
+ghost use Rattle.cuts.specs.Steps.{AllFollow, RootFollows};
 
 // The leaf bits of a panel of depth up to 6, as one number. They end at byte 2^(D-1), and the bytes before them hold sums.
 fn leaves_of(bytes: &[u8], deep: usize) -> u64
@@ -43,14 +42,6 @@ fn spread(x: u64, deep: usize) -> u64
     y
 }
 
-// The leaf word that node 1 has at depth 6 with the cuts of this panel of depth up to 6.
-fn root_word(bytes: &[u8], deep: usize) -> u64
-    requires { ⌜ Room deep (now bytes) × (deep ≤ 6) ⌝ }
-    ensures { λ r. ⌜ CutWord (Cut deep (leafBit deep (now (bytes .entry)))) 1 r ⌝ }
-{
-    spread(leaves_of(bytes, deep), deep)
-}
-
 // Whether b, the leaf word below node 1, has what its parts ask of each other.
 fn root_follows(b: u64) -> bool
     ensures { λ r. ⌜ Says (RootFollows b) r ⌝ }
@@ -65,10 +56,14 @@ fn root_follows(b: u64) -> bool
     false
 }
 
-// Whether all nodes that are cut may be.
+// Whether all nodes that are cut may be. Node 1 alone may.
 pub fn shallow_follow(bytes: &[u8], deep: usize) -> bool
     requires { ⌜ Room deep (now bytes) × (deep ≤ 6) ⌝ }
     ensures { λ r. ⌜ Says (AllFollow deep (leafBit deep (now (bytes .entry)))) r ⌝ }
 {
-    root_follows(root_word(bytes, deep))
+    let x = leaves_of(bytes, deep);
+    if x / 2 == 1u64 << ((1usize << (deep - 1)) - 1) {
+        return true;
+    }
+    root_follows(spread(x, deep))
 }
