@@ -1,15 +1,14 @@
 -- Words side by side in one number: masked, joined two by two, and packed. Each law holds over the width.
 use mathlib.Core.Path.{_≡_, refl, sym, ap, ap₂, _∙_, subst}
-use mathlib.Core.List.{List}
 use Prim.Native.Nat.{ℕ, zero, suc, _+_, _-_, _*_, _/_, _%_, _^_, _≤_, _<_}
-use native.Mathlib.Nat.{add-assoc, add-comm, zero-mul, suc-mul, add-mul, mul-assoc, mul-comm, mul-add, div-one, mod-lt, mod-eq-of-lt, pow-suc, le-dest, add-zero, mul-le-mul-right}
+use native.Mathlib.Nat.{add-comm, zero-mul, suc-mul, add-mul, mul-assoc, mul-comm, div-one, mod-lt, mod-eq-of-lt, le-dest, mul-le-mul-right}
 use native.Mathlib.Omega.{arith}
 use lib.Arith.{digits-lt}
 use lib.Bits.{bitAnd, and-zero-r, and-block, and-mask}
 use lib.Pow.{pow-pos, pow-add, split, high, low, shr-shr, mod-mod-pow, ones-lt, pow-mono}
 use Rattle.bits.specs.Bits.{digit}
 use Rattle.bits.proofs.Laws.{digit-shift}
-use Rattle.sums.specs.Rows.{part, PairSums, abreast, Halves, Narrow, Joined, Packed, Six, SixOver}
+use Rattle.sums.specs.Rows.{part, PairSums, abreast, Halves, Narrow, Joined, Packed, SixOver}
 
 -- ---- the words of a number
 
