@@ -11,7 +11,7 @@ use lib.Arith.{digits-lt}
 use lib.Pow.{pow-pos, pow-add, shr-lt, shr-le}
 use Rattle.bits.specs.Bits.{digit, bit, run, field, putField}
 use Rattle.bits.specs.Windows.{little, putLittle}
-use Rattle.bits.proofs.Laws.{run-ext, run-digits, digit-shift, digit-mod, digit-high, digit-low, bit-at, little-digit, Bytes, all-set, le-or-lt, ext-bits, length-putField, bytes-putField, bit-in, bit-out, one-shl}
+use Rattle.bits.proofs.Laws.{Out, run-ext, run-digits, digit-shift, digit-mod, digit-high, digit-low, bit-at, little-digit, Bytes, all-set, le-or-lt, ext-bits, length-putField, bytes-putField, bit-in, bit-out, one-shl}
 
 -- n with its w digits from k on set to v
 abbrev pub withField : ℕ → ℕ → ℕ → ℕ → ℕ
@@ -73,6 +73,21 @@ field-window bs hb s w i n l h =
     (λ j k. sym (little-digit bs hb i n (s - 8 * i + j) (omega arith) ∙ ap (bit bs) (omega arith)))
     ∙ run-digits (little bs i n) (s - 8 * i) w
 
+-- to store v in a window is to make it v and leave all other bits
+module _ (bs : List ℕ) (hb : Bytes bs) (i n v : ℕ) (ys : List ℕ) (hy : Bytes ys) (e : length ys ≡ length bs) where
+  window-is : ((p : ℕ) → Out (8 * i) (8 * n) p → bit ys p ≡ bit bs p) → ((j : ℕ) → j < 8 * n → (8 * i + j) / 8 < length bs → bit ys (8 * i + j) ≡ digit v j)
+      → putLittle bs i n v ≡ ys
+  window-is out in-it =
+      ext-bits _ _ (bytes-putLittle bs i n v hb) hy (length-putLittle bs i n v ∙ sym e)
+      (λ p l. let l2 : p / 8 < length bs = omega (arith, length-putLittle bs i n v) in
+      ⊎-elim (λ a. let d = le-dest a in
+      ⊎-elim (λ b. little-out bs i n v p (inr b) ∙ sym (out p (inr (omega arith))))
+      (λ b. subst (λ (x : ℕ). bit (putLittle bs i n v) x ≡ bit ys x) (d .1)
+      (little-in bs i n v (d .0) (omega (arith, d .1)) (omega (arith, d .1)) ∙ sym (in-it (d .0) (omega (arith, d .1)) (omega (arith, d .1)))))
+      (le-or-lt (8 * (i + n)) p))
+      (λ a. little-out bs i n v p (inl a) ∙ sym (out p (inl a)))
+      (le-or-lt (8 * i) p))
+
 -- to put a field is to put the window that holds it
 module _ (bs : List ℕ) (hb : Bytes bs) (s w v i n : ℕ) (hv : v < 2 ^ w) (lo : 8 * i ≤ s) (hn : s + w ≤ 8 * i + 8 * n) (hl : s + w ≤ 8 * length bs) where
   abbrev k : ℕ
@@ -98,24 +113,14 @@ module _ (bs : List ℕ) (hb : Bytes bs) (s w v i n : ℕ) (hv : v < 2 ^ w) (lo 
 
   pub put-window : putLittle bs i n (withField (little bs i n) k w v) ≡ putField bs s w v
   put-window =
-      ext-bits _ _ (bytes-putLittle bs i n _ hb) (bytes-putField bs s w v hb)
-      (length-putLittle bs i n _ ∙ sym (length-putField bs s w v))
-      (λ p l. let l2 : p / 8 < length bs = omega (arith, length-putLittle bs i n (withField (little bs i n) k w v)) in
-      ⊎-elim (λ a. let d = le-dest a in
-      ⊎-elim (λ b. little-out bs i n _ p (inr b) ∙ sym (bit-out bs s w v p (inr (omega arith))))
-      (λ b. subst (λ (x : ℕ). bit (putLittle bs i n (withField (little bs i n) k w v)) x ≡ bit (putField bs s w v) x) (d .1)
-      (little-in bs i n _ (d .0) (omega (arith, d .1)) (omega (arith, d .1)) ∙ inside (d .0) (omega (arith, d .1)) (omega (arith, d .1))))
-      (le-or-lt (8 * (i + n)) p))
-      (λ a. little-out bs i n _ p (inl a) ∙ sym (bit-out bs s w v p (inl (omega arith))))
-      (le-or-lt (8 * i) p))
+      window-is bs hb i n (withField (little bs i n) k w v) (putField bs s w v) (bytes-putField bs s w v hb) (length-putField bs s w v)
+      (λ p o. bit-out bs s w v p (⊎-elim (λ l. inl (omega arith)) (λ l. inr (omega arith)) o)) (λ j h l. sym (inside j h l))
 
--- to store a byte is to put the field of its eight bits
-pub set-byte : (bs : List ℕ) → Bytes bs → (i v : ℕ) → i < length bs → v < 256 → set bs i v ≡ putField bs (8 * i) 8 v
-unfolding putLittle
-set-byte bs hb i v hi hv =
-    let e : withField (little bs i 1) (8 * i - 8 * i) 8 v % 256 ≡ v =
-    ap (λ (x : ℕ). withField (little bs i 1) x 8 v % 256) {x = 8 * i - 8 * i} {y = 0} (omega arith) ∙ omega arith in
-    ap (set bs i) (sym e) ∙ put-window bs hb (8 * i) 8 v i 1 hv (omega arith) (omega arith) (omega arith)
+-- to store n bytes is to put the field of their bits
+pub put-bytes : (bs : List ℕ) → Bytes bs → (i n v : ℕ) → i + n ≤ length bs → putLittle bs i n v ≡ putField bs (8 * i) (8 * n) v
+put-bytes bs hb i n v l =
+    window-is bs hb i n v (putField bs (8 * i) (8 * n) v) (bytes-putField bs (8 * i) (8 * n) v hb) (length-putField bs (8 * i) (8 * n) v)
+    (bit-out bs (8 * i) (8 * n) v) (λ j h x. bit-in bs (8 * i) (8 * n) v j h (omega arith))
 
 -- the machine's shifts lose nothing
 module _ (n k w v : ℕ) (hn : n < 2 ^ 32) (hk : k < 32) (hw : k + w ≤ 32) (hv : v < 2 ^ w) where

@@ -36,3 +36,7 @@ putBit bs p v = set bs (p / 8) (withDigit (getD bs (p / 8) 0) (p % 8) v)
 unfoldable pub putField : List ℕ → ℕ → ℕ → ℕ → List ℕ
 putField bs s zero v = bs
 putField bs s (suc w) v = putField (putBit bs s (v % 2)) (s + 1) w (v / 2)
+
+-- the w bits from bit s on and the v bits from bit t on have none in common
+abbrev pub Apart : ℕ → ℕ → ℕ → ℕ → Type 0
+Apart s w t v = s < t + v → t < s + w → ⊥

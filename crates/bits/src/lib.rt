@@ -104,6 +104,33 @@ fn store_window(bytes: &mut [u8], i: usize, n: u32)
     store_byte(bytes, i + 3, n / 256 / 256 / 256 % 256);
 }
 
+// Sets the four bytes from i on to v: the field of their 32 bits.
+pub fn put_four(bytes: &mut [u8], i: usize, v: u32)
+    requires { ⌜ i + 4 ≤ length (now bytes) ⌝ }
+    ensures { λ _. ⌜ now (bytes .exit) ≡ putField (now (bytes .entry)) (8 * i) 32 v ⌝ }
+{
+    store_window(bytes, i, v);
+}
+
+// Sets the six bytes from i on to v: the field of their 48 bits.
+pub fn put_six(bytes: &mut [u8], i: usize, v: u64)
+    requires { ⌜ (i + 6 ≤ length (now bytes)) × (v < 2 ^ 48) ⌝ }
+    ensures { λ _. ⌜ now (bytes .exit) ≡ putField (now (bytes .entry)) (8 * i) 48 v ⌝ }
+{
+    put_four(bytes, i, (v % 4294967296) as u32);
+    put_byte(bytes, i + 4, (v / 4294967296 % 256) as u32);
+    put_byte(bytes, i + 5, (v / 4294967296 / 256) as u32);
+}
+
+// Sets the eight bytes from i on to v: the field of their 64 bits.
+pub fn put_eight(bytes: &mut [u8], i: usize, v: u64)
+    requires { ⌜ i + 8 ≤ length (now bytes) ⌝ }
+    ensures { λ _. ⌜ now (bytes .exit) ≡ putField (now (bytes .entry)) (8 * i) 64 v ⌝ }
+{
+    put_four(bytes, i, (v % 4294967296) as u32);
+    put_four(bytes, i + 4, (v / 4294967296) as u32);
+}
+
 // Sets the w bits from bit s on to the number v, lowest first.
 pub fn put_field(bytes: &mut [u8], s: usize, w: usize, v: u32)
     requires { ⌜ (4 ≤ length (now bytes)) × (s + w ≤ 8 * length (now bytes)) × (0 < w) × (w ≤ 25) × (v < 2 ^ w) ⌝ }

@@ -3,9 +3,9 @@ pub mod Rooms
 pub mod Rows
 pub mod Pairs
 pub mod Abreast
+pub mod Steps
 pub mod Lowest
 pub mod LowSix
-pub mod Steps
 pub mod Leaves
 pub mod Unique
 pub mod Heads

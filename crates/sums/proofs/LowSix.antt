@@ -1,17 +1,21 @@
 -- The six lowest rows: below word j of row D - 6 stand 64 leaf bits, and 32, 16, .. words of the rows between, each side by side.
-use mathlib.Core.Path.{_≡_, refl, sym, ap, ap₂, _∙_, subst}
-use mathlib.Core.List.{List}
-use Prim.Native.Nat.{ℕ, _+_, _-_, _*_, _/_, _%_, _^_, _≤_, _<_}
-use native.Mathlib.Nat.{mul-add, add-mul, mul-assoc, mul-comm, mul-le-mul-right, div-one, add-zero}
+use mathlib.Core.Path.{_≡_, refl, sym, ap, _∙_, subst}
+use mathlib.Core.Logic.{⊎-elim}
+use mathlib.Core.List.{List, [], _∷_}
+use Prim.Native.Nat.{ℕ, _+_, _-_, _*_, _/_, _^_, _≤_, _<_}
+use native.Mathlib.Nat.{mul-add, add-mul, mul-assoc, mul-comm, mul-le-mul-right}
 use native.Mathlib.Omega.{arith}
+use lib.ListN.{length}
 use lib.Pow.{pow-add, pow-mono}
 use Rattle.bits.specs.Bits.{field}
 use Rattle.bits.proofs.Laws.{field-lt}
+use Rattle.bits.proofs.Puts.{Put, puts, length-puts, field-aside, puts-hold}
 use Rattle.nodes.proofs.Depths.{pow-next}
-use Rattle.sums.specs.Rows.{SumsBetween, PairSums, Six, SixOver, SixAt}
-use Rattle.sums.proofs.Slots.{from}
+use Rattle.sums.specs.Rows.{SumsBetween, Made, PairSums, Six, SixOver, SixAt, ApartSix, SixMade}
+use Rattle.sums.proofs.Slots.{from, from-leaf}
 use Rattle.sums.proofs.Rows.{from-row, sums-join}
 use Rattle.sums.proofs.Pairs.{pairs-sums, sums-pairs, pairs-one}
+use Rattle.sums.proofs.Steps.{Blockwise, blocks-next, blocks-all}
 
 -- ---- the words that stand there are the sums
 
@@ -37,21 +41,19 @@ module _ {x a b c d e f : ℕ} (o : SixOver x a b c d e f) (m : ℕ) (bs : List 
       let all = pairs-one 1 6 e lf (lt (9 * m + 7 * j) 7) (s .all) (subst (λ (v : ℕ). PairSums 1 6 v (field bs (9 * m + 7 * j) 7)) (sym halves) (t .all)) in
       record { twos = twos; fours = fours; eights = eights; sixteens = sixteens; halves = halves; all = all }
 
-  -- a row's pairs where both numbers are those that stand there
-  moved : (n w : ℕ) {p q p' q' : ℕ} → p ≡ p' → q ≡ q' → PairSums n w p q → PairSums n w p' q'
-  moved n w {p} {q} {p'} {q'} g h s = subst (λ (v : ℕ). PairSums n w p' v) h (subst (λ (v : ℕ). PairSums n w v q) g s)
+-- a row's pairs where both numbers are those that stand there
+moved : (n w : ℕ) {p q p' q' : ℕ} → p ≡ p' → q ≡ q' → PairSums n w p q → PairSums n w p' q'
+moved n w {p} {q} {p'} {q'} g h s = subst (λ (v : ℕ). PairSums n w p' v) h (subst (λ (v : ℕ). PairSums n w v q) g s)
 
-  pub same-six : SameSix m bs j a b c d e f → SixAt m bs j
-  same-six t =
-      let s = o .six in
-      record {
-        twos = moved 32 1 ex (t .twos) (s .twos);
-        fours = moved 16 2 (t .twos) (t .fours) (s .fours);
-        eights = moved 8 3 (t .fours) (t .eights) (s .eights);
-        sixteens = moved 4 4 (t .eights) (t .sixteens) (s .sixteens);
-        halves = moved 2 5 (t .sixteens) (t .halves) (s .halves);
-        all = moved 1 6 (t .halves) (t .all) (s .all);
-      }
+pub same-six : {x a b c d e f : ℕ} → Six x a b c d e f → (m : ℕ) (bs : List ℕ) (j : ℕ) → x ≡ field bs (8 * (24 * m + 8 * j)) 64 → SameSix m bs j a b c d e f → SixAt m bs j
+same-six s m bs j ex t = record {
+  twos = moved 32 1 ex (t .twos) (s .twos);
+  fours = moved 16 2 (t .twos) (t .fours) (s .fours);
+  eights = moved 8 3 (t .fours) (t .eights) (s .eights);
+  sixteens = moved 4 4 (t .eights) (t .sixteens) (s .sixteens);
+  halves = moved 2 5 (t .sixteens) (t .halves) (s .halves);
+  all = moved 1 6 (t .halves) (t .all) (s .all);
+}
 
 -- ---- where they stand
 
@@ -146,3 +148,54 @@ module _ (D e : ℕ) (h : e + 6 ≡ D) where
       (sums-join D bs (8 * m) (16 * m) (64 * m) (λ k lo hi. let j = k / 8 - m in let l : j < m = omega arith in right-here bs j l 3 8 3 refl (omega arith) refl (p3 bs j l) (p4 bs j l) (s j l .eights) k (omega arith) (omega arith))
       (sums-join D bs (16 * m) (32 * m) (64 * m) (λ k lo hi. let j = k / 16 - m in let l : j < m = omega arith in right-here bs j l 4 16 2 refl (omega arith) refl (p4 bs j l) (p5 bs j l) (s j l .fours) k (omega arith) (omega arith))
       (λ k lo hi. let j = k / 32 - m in let l : j < m = omega arith in right-here bs j l 5 32 1 refl (omega arith) refl (p5 bs j l) (p6 bs j l) (s j l .twos) k (omega arith) (omega arith)))))))
+
+-- ---- made from the leaf bits, 64 of them at a time
+
+-- the six rows over block j
+abbrev pub sixPuts : ℕ → ℕ → ℕ → ℕ → ℕ → ℕ → ℕ → ℕ → List Put
+sixPuts m j a b c d e f =
+    record { start = 8 * (16 * m + 8 * j); width = 64; value = a }
+    ∷ record { start = 8 * (10 * m + 6 * j); width = 48; value = b }
+    ∷ record { start = 8 * (6 * m + 4 * j); width = 32; value = c }
+    ∷ record { start = 28 * m + 20 * j; width = 20; value = d }
+    ∷ record { start = 16 * m + 12 * j; width = 12; value = e }
+    ∷ record { start = 9 * m + 7 * j; width = 7; value = f }
+    ∷ []
+
+module _ {x a b c d e f : ℕ} (o : SixOver x a b c d e f) (m j : ℕ) (xs : List ℕ) (room : 32 * m ≤ length xs) (l : j < m) (ex : x ≡ field xs (8 * (24 * m + 8 * j)) 64) where
+  abbrev six : List Put
+  six = sixPuts m j a b c d e f
+
+  other : (s w : ℕ) → ApartSix m j s w → field (puts xs six) s w ≡ field xs s w
+  other s w h = field-aside xs six s w (h .twos, (h .fours, (h .eights, (h .sixteens, (h .halves, (h .all, tt))))))
+
+  pub six-made : SixMade m j xs (puts xs six)
+  six-made =
+      let (ra, (rb, (rc, (rd, (re, (rf, z)))))) = puts-hold xs six (256 * m) (omega arith) (omega (arith, o .small)) in
+      record {
+        long = length-puts xs six;
+        same = other;
+        sums = same-six (o .six) m (puts xs six) j (ex ∙ sym (other (8 * (24 * m + 8 * j)) 64 (omega arith))) (record { twos = ra; fours = rb; eights = rc; sixteens = rd; halves = re; all = rf });
+      }
+
+-- one block more
+module _ {m i : ℕ} (h : i < m) where
+  -- the sums over the blocks before it are kept
+  kept : (ys zs : List ℕ) (k : ℕ) → k < i → ((s w : ℕ) → ApartSix m i s w → field zs s w ≡ field ys s w) → SixAt m ys k → SixAt m zs k
+  kept ys zs k l same s = same-six s m zs k (sym (same (8 * (24 * m + 8 * k)) 64 (omega arith))) (record {
+    twos = sym (same (8 * (16 * m + 8 * k)) 64 (omega arith));
+    fours = sym (same (8 * (10 * m + 6 * k)) 48 (omega arith));
+    eights = sym (same (8 * (6 * m + 4 * k)) 32 (omega arith));
+    sixteens = sym (same (28 * m + 20 * k) 20 (omega arith));
+    halves = sym (same (16 * m + 12 * k) 12 (omega arith));
+    all = sym (same (9 * m + 7 * k) 7 (omega arith));
+  })
+
+  pub six-next : {xs ys zs : List ℕ} → Blockwise (SixAt m) (9 * m) (192 * m) i xs ys → SixMade m i ys zs → Blockwise (SixAt m) (9 * m) (192 * m) (i + 1) xs zs
+  six-next {xs} {ys} {zs} = blocks-next (kept ys zs) (λ p o. ⊎-elim (λ l. omega arith) (λ l. omega arith) o)
+
+-- all of them
+pub six-all : (D e : ℕ) → e + 6 ≡ D → {i : ℕ} {xs ys : List ℕ} → 2 ^ e ≤ i → Blockwise (SixAt (2 ^ e)) (9 * 2 ^ e) (192 * 2 ^ e) i xs ys → Made D (2 ^ e) (2 ^ D) xs ys
+six-all D e h {i} {xs} {ys} l s =
+    blocks-all (omega (arith, from-row D e 7 (omega arith) (omega arith) 0 (2 ^ e) (omega arith) (omega arith), pow-next e)) (omega (arith, from-leaf D, pow-six D e h))
+    (six-sums D e h ys (λ j x. s .sums j (omega arith))) s

@@ -1,17 +1,19 @@
 -- The three lowest rows: below node j of row D - 3 stand eight leaf bits, four words, two words, each side by side.
 use mathlib.Core.Path.{_≡_, refl, sym, ap, _∙_, subst}
-use mathlib.Core.Logic.{_⊎_, inl, inr, ⊎-elim}
-use mathlib.Core.List.{List}
+use mathlib.Core.Logic.{⊎-elim}
+use mathlib.Core.List.{List, [], _∷_}
 use Prim.Native.Nat.{ℕ, _+_, _-_, _*_, _/_, _%_, _^_, _≤_, _<_}
 use native.Mathlib.Omega.{arith}
 use lib.ListN.{length}
-use Rattle.bits.specs.Bits.{bit, field, putField}
-use Rattle.bits.proofs.Laws.{le-or-lt, bit-out, length-putField, field-put-same, field-put-other}
+use Rattle.bits.specs.Bits.{field}
+use Rattle.bits.proofs.Laws.{le-or-lt}
+use Rattle.bits.proofs.Puts.{Put, puts, length-puts, field-aside, puts-hold}
 use Rattle.nodes.proofs.Depths.{pow-next}
-use Rattle.sums.specs.Rows.{SumsBetween, Made, PairSums, Seven, Sevens, SevenAt}
+use Rattle.sums.specs.Rows.{SumsBetween, Made, PairSums, Seven, Sevens, SevenAt, ApartSeven, SevenMade}
 use Rattle.sums.proofs.Slots.{from, from-leaf}
 use Rattle.sums.proofs.Rows.{from-row}
 use Rattle.sums.proofs.Pairs.{pairs-sums, sums-pairs, pairs-one}
+use Rattle.sums.proofs.Steps.{Blockwise, blocks-next, blocks-all}
 
 -- ---- seven sums
 
@@ -94,68 +96,39 @@ module _ (D e : ℕ) (h : e + 3 ≡ D) where
 
 -- ---- made from the leaf bits, a byte of them at a time
 
--- ys is xs with the sums over the first i leaf bytes made, and no bit outside the three rows has changed
-pub record LowMade (m i : ℕ) (xs ys : List ℕ) : Type 0 where
-  pub long : length ys ≡ length xs
-  pub same : (p : ℕ) → (p < 6 * m) ⊎ (24 * m ≤ p) → bit ys p ≡ bit xs p
-  pub sums : (j : ℕ) → j < i → SevenAt m ys j
+-- the three rows over leaf byte j, in one number
+abbrev pub sevenPuts : ℕ → ℕ → ℕ → List Put
+sevenPuts m j n =
+    record { start = 8 * (2 * m + j); width = 8; value = n % 256 }
+    ∷ record { start = 10 * m + 6 * j; width = 6; value = n / 256 % 64 }
+    ∷ record { start = 6 * m + 4 * j; width = 4; value = n / 16384 }
+    ∷ []
 
-pub low-none : (m : ℕ) (xs : List ℕ) → LowMade m 0 xs xs
-low-none m xs = record { long = refl; same = λ p o. refl; sums = λ j l. absurd (omega arith) }
+module _ {x n : ℕ} (o : Sevens x n) (m j : ℕ) (xs : List ℕ) (room : 4 * m ≤ length xs) (l : j < m) (ex : x ≡ field xs (8 * (3 * m + j)) 8) where
+  other : (s w : ℕ) → ApartSeven m j s w → field (puts xs (sevenPuts m j n)) s w ≡ field xs s w
+  other s w h = field-aside xs (sevenPuts m j n) s w (h .four, (h .two, (h .one, tt)))
+
+  pub seven-made : SevenMade m j xs (puts xs (sevenPuts m j n))
+  seven-made =
+      let (y, (z, (u, end))) = puts-hold xs (sevenPuts m j n) (32 * m) (omega arith) (omega (arith, o .small)) in
+      record {
+        long = length-puts xs (sevenPuts m j n);
+        same = other;
+        sums = same-seven (ex ∙ sym (other (8 * (3 * m + j)) 8 (omega arith))) y z u (o .right);
+      }
 
 -- one leaf byte more
-module _ {m i n : ℕ} {xs ys : List ℕ} (room : 4 * m ≤ length ys) (hi : i < m) (s : LowMade m i xs ys) (t : Sevens (field ys (8 * (3 * m + i)) 8) n) where
-  abbrev y : List ℕ
-  y = putField ys (8 * (2 * m + i)) 8 (n % 256)
+module _ {m i : ℕ} (h : i < m) where
+  -- the sums over the bytes before it are kept
+  kept : (ys zs : List ℕ) (k : ℕ) → k < i → ((s w : ℕ) → ApartSeven m i s w → field zs s w ≡ field ys s w) → SevenAt m ys k → SevenAt m zs k
+  kept ys zs k l same =
+      same-seven (sym (same (8 * (3 * m + k)) 8 (omega arith))) (sym (same (8 * (2 * m + k)) 8 (omega arith))) (sym (same (10 * m + 6 * k) 6 (omega arith))) (sym (same (6 * m + 4 * k) 4 (omega arith)))
 
-  abbrev z : List ℕ
-  z = putField y (10 * m + 6 * i) 6 (n / 256 % 64)
-
-  abbrev zs : List ℕ
-  zs = putField z (6 * m + 4 * i) 4 (n / 16384)
-
-  abbrev Apart : ℕ → ℕ → ℕ → ℕ → Type 0
-  Apart a b p w = (p + w ≤ a) ⊎ (a + b ≤ p)
-
-  -- a field apart from the three that were put
-  other : (p w : ℕ) → Apart (8 * (2 * m + i)) 8 p w → Apart (10 * m + 6 * i) 6 p w → Apart (6 * m + 4 * i) 4 p w → field zs p w ≡ field ys p w
-  other p w a b c =
-      field-put-other z (6 * m + 4 * i) 4 (n / 16384) p w c ∙ field-put-other y (10 * m + 6 * i) 6 (n / 256 % 64) p w b
-      ∙ field-put-other ys (8 * (2 * m + i)) 8 (n % 256) p w a
-
-  before : (j : ℕ) → j < i → SevenAt m zs j
-  before j l =
-      same-seven (sym (other (8 * (3 * m + j)) 8 (inr (omega arith)) (inr (omega arith)) (inr (omega arith))))
-      (sym (other (8 * (2 * m + j)) 8 (inl (omega arith)) (inr (omega arith)) (inr (omega arith))))
-      (sym (other (10 * m + 6 * j) 6 (inl (omega arith)) (inl (omega arith)) (inr (omega arith))))
-      (sym (other (6 * m + 4 * j) 4 (inl (omega arith)) (inl (omega arith)) (inl (omega arith)))) (s .sums j l)
-
-  at : SevenAt m zs i
-  at =
-      same-seven (sym (other (8 * (3 * m + i)) 8 (inr (omega arith)) (inr (omega arith)) (inr (omega arith))))
-      (sym (field-put-other z (6 * m + 4 * i) 4 (n / 16384) (8 * (2 * m + i)) 8 (inr (omega arith)) ∙ field-put-other y (10 * m + 6 * i) 6 (n / 256 % 64) (8 * (2 * m + i)) 8 (inr (omega arith))
-      ∙ field-put-same ys (8 * (2 * m + i)) 8 (n % 256) (omega arith) (omega arith)))
-      (sym (field-put-other z (6 * m + 4 * i) 4 (n / 16384) (10 * m + 6 * i) 6 (inr (omega arith))
-      ∙ field-put-same y (10 * m + 6 * i) 6 (n / 256 % 64) (omega arith) (omega (arith, length-putField ys (8 * (2 * m + i)) 8 (n % 256)))))
-      (sym (field-put-same z (6 * m + 4 * i) 4 (n / 16384) (omega (arith, t .small)) (omega (arith, long))))
-      (t .right)
-    where
-      long : length z ≡ length ys
-      long = length-putField y (10 * m + 6 * i) 6 (n / 256 % 64) ∙ length-putField ys (8 * (2 * m + i)) 8 (n % 256)
-
-  pub low-next : LowMade m (i + 1) xs zs
-  low-next = record {
-    long = length-putField z (6 * m + 4 * i) 4 (n / 16384) ∙ length-putField y (10 * m + 6 * i) 6 (n / 256 % 64) ∙ length-putField ys (8 * (2 * m + i)) 8 (n % 256) ∙ s .long;
-    same = λ p o. bit-out z (6 * m + 4 * i) 4 (n / 16384) p (⊎-elim (λ l. inl (omega arith)) (λ l. inr (omega arith)) o)
-        ∙ bit-out y (10 * m + 6 * i) 6 (n / 256 % 64) p (⊎-elim (λ l. inl (omega arith)) (λ l. inr (omega arith)) o)
-        ∙ bit-out ys (8 * (2 * m + i)) 8 (n % 256) p (⊎-elim (λ l. inl (omega arith)) (λ l. inr (omega arith)) o) ∙ s .same p o;
-    sums = λ j l. ⊎-elim (λ x. let e : i ≡ j = omega arith in subst (SevenAt m zs) e at) (before j) (le-or-lt i j);
-  }
+  pub seven-next : {xs ys zs : List ℕ} → Blockwise (SevenAt m) (6 * m) (24 * m) i xs ys → SevenMade m i ys zs → Blockwise (SevenAt m) (6 * m) (24 * m) (i + 1) xs zs
+  seven-next {xs} {ys} {zs} = blocks-next (kept ys zs) (λ p o. ⊎-elim (λ l. omega arith) (λ l. omega arith) o)
 
 -- all of them
-pub low-all : (D e : ℕ) → e + 3 ≡ D → {i : ℕ} {xs ys : List ℕ} → 2 ^ e ≤ i → LowMade (2 ^ e) i xs ys → Made D (2 ^ e) (2 ^ D) xs ys
-low-all D e h {i} {xs} {ys} l s = record {
-  long = s .long;
-  same = λ p o. s .same p (⊎-elim (λ x. inl (omega (arith, from-row D e 4 (omega arith) (omega arith) 0 (2 ^ e) (omega arith) (omega arith), pow-next e))) (λ x. inr (omega (arith, from-leaf D, pow-deep D e h))) o);
-  sums = sevens-sums D e h ys (λ j x. s .sums j (omega arith));
-}
+pub seven-all : (D e : ℕ) → e + 3 ≡ D → {i : ℕ} {xs ys : List ℕ} → 2 ^ e ≤ i → Blockwise (SevenAt (2 ^ e)) (6 * 2 ^ e) (24 * 2 ^ e) i xs ys → Made D (2 ^ e) (2 ^ D) xs ys
+seven-all D e h {i} {xs} {ys} l s =
+    blocks-all (omega (arith, from-row D e 4 (omega arith) (omega arith) 0 (2 ^ e) (omega arith) (omega arith), pow-next e)) (omega (arith, from-leaf D, pow-deep D e h))
+    (sevens-sums D e h ys (λ j x. s .sums j (omega arith))) s

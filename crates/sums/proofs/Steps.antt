@@ -5,13 +5,16 @@ use mathlib.Core.List.{List}
 use Prim.Native.Nat.{ℕ, suc, _+_, _-_, _*_, _^_, _≤_, _<_}
 use native.Mathlib.Omega.{arith}
 use lib.ListN.{length}
+use borrow.Author.Count.{below-none, below-more}
+use Rattle.bits.specs.Bits.{bit, field}
 use Rattle.bits.proofs.Laws.{le-or-lt}
+use Rattle.bits.proofs.Windows.{field-one}
 use Rattle.nodes.specs.Depth.{depthOf}
 use Rattle.nodes.proofs.Depths.{pow-next, depth-left, depth-right, depth-le}
 use Rattle.sums.specs.Words.{width, word, putWord}
 use Rattle.sums.specs.Sums.{Summed}
-use Rattle.sums.specs.Rows.{Made}
-use Rattle.sums.proofs.Slots.{wide, packed, from-mono, from-one, from-leaf, word-lt, word-same, length-putWord, bit-put-word, word-put-same, word-put-other}
+use Rattle.sums.specs.Rows.{SumsBetween, Made, MadeHere}
+use Rattle.sums.proofs.Slots.{from, wide, packed, from-mono, from-one, from-leaf, word-lt, word-same, length-putWord, bit-put-word, word-put-same, word-put-other}
 
 abbrev pub sumOf : ℕ → List ℕ → ℕ → ℕ
 sumOf D bs k = word D bs (2 * k) + word D bs (2 * k + 1)
@@ -72,7 +75,35 @@ module _ {D m n o : ℕ} {xs ys zs : List ℕ} (one : 1 ≤ n) (low : m ≤ n) (
         (λ b. t .sums j l b) (le-or-lt n j);
   }
 
--- all parts made
+-- ---- blocks of leaf bits, the first first
+
+-- ys is xs with the sums over the first i blocks made, which Sums speaks of block by block, and no bit outside of lo to hi has changed
+pub record Blockwise (Sums : List ℕ → ℕ → Type 0) (lo hi i : ℕ) (xs ys : List ℕ) : Type 0 where
+  pub long : length ys ≡ length xs
+  pub same : (p : ℕ) → (p < lo) ⊎ (hi ≤ p) → bit ys p ≡ bit xs p
+  pub sums : (k : ℕ) → k < i → Sums ys k
+
+pub blocks-none : {Sums : List ℕ → ℕ → Type 0} {lo hi : ℕ} (xs : List ℕ) → Blockwise Sums lo hi 0 xs xs
+blocks-none xs = record { long = refl; same = λ p o. refl; sums = below-none _ }
+
+-- one block more, whose sums are clear of those over the blocks before it and of all bits outside
+pub blocks-next : {Sums : List ℕ → ℕ → Type 0} {Clear : ℕ → ℕ → Type 0} {lo hi i : ℕ} {xs ys zs : List ℕ}
+    → ((k : ℕ) → k < i → ((s w : ℕ) → Clear s w → field zs s w ≡ field ys s w) → Sums ys k → Sums zs k)
+    → ((p : ℕ) → (p < lo) ⊎ (hi ≤ p) → Clear p 1)
+    → Blockwise Sums lo hi i xs ys → MadeHere Clear (λ bs. Sums bs i) ys zs → Blockwise Sums lo hi (i + 1) xs zs
+blocks-next {ys = ys} {zs = zs} kept clear s t = record {
+  long = t .long ∙ s .long;
+  same = λ p o. sym (field-one zs p) ∙ t .same p 1 (clear p o) ∙ field-one ys p ∙ s .same p o;
+  sums = below-more _ _ (λ k l. kept k l (t .same) (s .sums k l)) (t .sums);
+}
+
+-- all blocks, which stand over the words from m on, before n
+pub blocks-all : {Sums : List ℕ → ℕ → Type 0} {D m n lo hi i : ℕ} {xs ys : List ℕ} → from D m ≡ lo → from D n ≡ hi → SumsBetween D ys m n
+    → Blockwise Sums lo hi i xs ys → Made D m n xs ys
+blocks-all a b f s = record { long = s .long; same = λ p o. s .same p (⊎-elim (λ l. inl (omega arith)) (λ l. inr (omega arith)) o); sums = f }
+
+-- ---- all parts made
+
 pub made-all : {D : ℕ} {xs ys : List ℕ} → Made D 1 (2 ^ D) xs ys → Summed D xs ys
 made-all {D} s = record {
   long = s .long;

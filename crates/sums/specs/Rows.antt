@@ -4,7 +4,7 @@ use mathlib.Core.Logic.{_⊎_}
 use mathlib.Core.List.{List}
 use Prim.Native.Nat.{ℕ, zero, suc, _+_, _-_, _*_, _/_, _%_, _^_, _≤_, _<_}
 use lib.ListN.{length}
-use Rattle.bits.specs.Bits.{bit, field}
+use Rattle.bits.specs.Bits.{bit, field, Apart}
 use Rattle.nodes.specs.Depth.{depthOf}
 use Rattle.sums.specs.Words.{start, word}
 
@@ -21,6 +21,12 @@ pub record Made (D m n : ℕ) (xs ys : List ℕ) : Type 0 where
   pub long : length ys ≡ length xs
   pub same : (p : ℕ) → (p < start D (depthOf m) m) ⊎ (start D (depthOf n) n ≤ p) → bit ys p ≡ bit xs p
   pub sums : SumsBetween D ys m n
+
+-- ys is xs with the sums made that Sums speaks of, and no field that is Clear of them has changed
+pub record MadeHere (Clear : ℕ → ℕ → Type 0) (Sums : List ℕ → Type 0) (xs ys : List ℕ) : Type 0 where
+  pub long : length ys ≡ length xs
+  pub same : (s w : ℕ) → Clear s w → field ys s w ≡ field xs s w
+  pub sums : Sums ys
 
 -- number i of the words of w bits that stand side by side in x
 abbrev pub part : ℕ → ℕ → ℕ → ℕ
@@ -39,6 +45,16 @@ pub record Seven (x y z u : ℕ) : Type 0 where
 -- so stand the sums over leaf bits 8 j to 8 j + 7, where m words are the first of the three lowest rows
 abbrev pub SevenAt : ℕ → List ℕ → ℕ → Type 0
 SevenAt m bs j = Seven (field bs (8 * (3 * m + j)) 8) (field bs (8 * (2 * m + j)) 8) (field bs (10 * m + 6 * j) 6) (field bs (6 * m + 4 * j) 4)
+
+-- the w bits from bit s on hold none of them
+pub record ApartSeven (m j s w : ℕ) : Type 0 where
+  pub four : Apart (8 * (2 * m + j)) 8 s w
+  pub two : Apart (10 * m + 6 * j) 6 s w
+  pub one : Apart (6 * m + 4 * j) 4 s w
+
+-- they are made
+abbrev pub SevenMade : ℕ → ℕ → List ℕ → List ℕ → Type 0
+SevenMade m j = MadeHere (ApartSeven m j) (λ ys. SevenAt m ys j)
 
 -- the same seven in one number: y in its first eight bits, then z, then u
 pub record Sevens (x n : ℕ) : Type 0 where
@@ -94,3 +110,16 @@ abbrev pub SixAt : ℕ → List ℕ → ℕ → Type 0
 SixAt m bs j =
     Six (field bs (8 * (24 * m + 8 * j)) 64) (field bs (8 * (16 * m + 8 * j)) 64) (field bs (8 * (10 * m + 6 * j)) 48) (field bs (8 * (6 * m + 4 * j)) 32)
     (field bs (28 * m + 20 * j) 20) (field bs (16 * m + 12 * j) 12) (field bs (9 * m + 7 * j) 7)
+
+-- the w bits from bit s on hold none of them
+pub record ApartSix (m j s w : ℕ) : Type 0 where
+  pub twos : Apart (8 * (16 * m + 8 * j)) 64 s w
+  pub fours : Apart (8 * (10 * m + 6 * j)) 48 s w
+  pub eights : Apart (8 * (6 * m + 4 * j)) 32 s w
+  pub sixteens : Apart (28 * m + 20 * j) 20 s w
+  pub halves : Apart (16 * m + 12 * j) 12 s w
+  pub all : Apart (9 * m + 7 * j) 7 s w
+
+-- they are made
+abbrev pub SixMade : ℕ → ℕ → List ℕ → List ℕ → Type 0
+SixMade m j = MadeHere (ApartSix m j) (λ ys. SixAt m ys j)

@@ -1,22 +1,60 @@
-// Making every sum right, from the leaf bits up: the three lowest rows eight leaf bits at a time, the others word by word.
-ghost use Prim.Native.Nat.{_+_, _-_, _^_, _<_};
+// Making every sum right, from the leaf bits up: from depth 6 on the six lowest rows 64 leaf bits at a time, before it the three lowest
+// rows eight leaf bits at a time; the others word by word.
+ghost use Prim.Native.Nat.{_+_, _-_, _*_, _^_, _≤_, _<_};
+ghost use lib.ListN.{length};
 ghost use Rattle.sums.specs.Words.{Room};
 ghost use Rattle.sums.specs.Sums.{Summed};
-ghost use Rattle.sums.specs.Rows.{Made};
+ghost use Rattle.sums.specs.Rows.{Made, SevenMade, SixMade};
 
-// Rows deep - 3 to deep - 1. The leaf bits are the last m bytes of 4 m, and the row above them fills the m bytes before.
-fn make_low_rows(bytes: &mut [u8], deep: usize)
+// Makes the three lowest rows, the highest of m words, over the eight leaf bits from bit 8 i on. The leaf bits are the last m bytes of
+// 4 m, and the row above them fills the m bytes before.
+fn make_seven(bytes: &mut [u8], m: usize, i: usize)
+    requires { ⌜ (4 * m ≤ length (now bytes)) × (m ≤ 16384) × (i < m) ⌝ }
+    ensures { λ _. ⌜ SevenMade m i (now (bytes .entry)) (now (bytes .exit)) ⌝ }
+{
+    let s = super::sevens::seven(bits::get_byte(bytes, 3 * m + i));
+    bits::put_byte(bytes, 2 * m + i, s % 256);
+    bits::put_field(bytes, 10 * m + 6 * i, 6, s / 256 % 64);
+    bits::put_field(bytes, 6 * m + 4 * i, 4, s / 16384);
+}
+
+// Rows deep - 3 to deep - 1.
+fn make_lowest_three(bytes: &mut [u8], deep: usize)
     requires { ⌜ Room deep (now bytes) ⌝ }
     ensures { λ _. ⌜ Made deep (2 ^ (deep - 3)) (2 ^ deep) (now (bytes .entry)) (now (bytes .exit)) ⌝ }
 {
     let m: usize = 1 << (deep - 3);
     let mut i: usize = 0;
     while i < m {
-        let s = super::sevens::seven(bits::get_byte(bytes, 3 * m + i));
-        bits::put_byte(bytes, 2 * m + i, s % 256);
-        bits::put_field(bytes, 10 * m + 6 * i, 6, s / 256 % 64);
-        bits::put_field(bytes, 6 * m + 4 * i, 4, s / 16384);
+        make_seven(bytes, m, i);
         i += 1;
+    }
+}
+
+// Makes the six lowest rows, the highest of m words, over the 64 leaf bits from bit 64 j on.
+fn make_six(bytes: &mut [u8], m: usize, j: usize)
+    requires { ⌜ (32 * m ≤ length (now bytes)) × (m ≤ 2048) × (j < m) ⌝ }
+    ensures { λ _. ⌜ SixMade m j (now (bytes .entry)) (now (bytes .exit)) ⌝ }
+{
+    let s = super::sixes::six_rows(bits::get_eight(bytes, 24 * m + 8 * j));
+    bits::put_eight(bytes, 16 * m + 8 * j, s.twos);
+    bits::put_six(bytes, 10 * m + 6 * j, s.fours);
+    bits::put_four(bytes, 6 * m + 4 * j, s.eights as u32);
+    bits::put_field(bytes, 28 * m + 20 * j, 20, s.sixteens as u32);
+    bits::put_field(bytes, 16 * m + 12 * j, 12, s.halves as u32);
+    bits::put_field(bytes, 9 * m + 7 * j, 7, s.all as u32);
+}
+
+// Rows deep - 6 to deep - 1.
+fn make_lowest_six(bytes: &mut [u8], deep: usize)
+    requires { ⌜ Room deep (now bytes) × (6 ≤ deep) ⌝ }
+    ensures { λ _. ⌜ Made deep (2 ^ (deep - 6)) (2 ^ deep) (now (bytes .entry)) (now (bytes .exit)) ⌝ }
+{
+    let m: usize = 1 << (deep - 6);
+    let mut j: usize = 0;
+    while j < m {
+        make_six(bytes, m, j);
+        j += 1;
     }
 }
 
@@ -40,15 +78,28 @@ fn make_row(bytes: &mut [u8], deep: usize, d: usize)
     }
 }
 
+// The rows before row end, the last of them first.
+fn make_high_rows(bytes: &mut [u8], deep: usize, end: usize)
+    requires { ⌜ Room deep (now bytes) × (end ≤ deep) ⌝ }
+    ensures { λ _. ⌜ Made deep 1 (2 ^ end) (now (bytes .entry)) (now (bytes .exit)) ⌝ }
+{
+    let mut d = end;
+    while 0 < d {
+        d -= 1;
+        make_row(bytes, deep, d);
+    }
+}
+
 // Makes every sum right, and changes nothing but sums.
 pub fn make_sums(bytes: &mut [u8], deep: usize)
     requires { ⌜ Room deep (now bytes) ⌝ }
     ensures { λ _. ⌜ Summed deep (now (bytes .entry)) (now (bytes .exit)) ⌝ }
 {
-    make_low_rows(bytes, deep);
-    let mut d = deep - 3;
-    while 0 < d {
-        d -= 1;
-        make_row(bytes, deep, d);
+    if deep < 6 {
+        make_lowest_three(bytes, deep);
+        make_high_rows(bytes, deep, deep - 3);
+    } else {
+        make_lowest_six(bytes, deep);
+        make_high_rows(bytes, deep, deep - 6);
     }
 }

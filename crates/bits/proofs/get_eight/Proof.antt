@@ -1,6 +1,6 @@
 -- Two windows of four bytes, side by side, are one of eight.
 use native.Mathlib.Omega.{arith}
-use mathlib.Core.Path.{_≡_, sym, ap, _∙_}
+use mathlib.Core.Path.{_≡_, ap}
 use Prim.Native.Nat.{ℕ, _+_, _*_, _-_, _/_, _%_, _^_}
 use lib.ListN.{getD}
 use Rattle.bits.specs.Windows.{little}

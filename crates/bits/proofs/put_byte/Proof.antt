@@ -1,7 +1,10 @@
 -- To store a byte is to put the field of its eight bits.
-use mathlib.Core.Path.{_∙_}
+use mathlib.Core.Path.{sym, ap, _∙_}
+use native.Mathlib.Nat.{mod-eq-of-lt}
+use lib.ListN.{set}
+use Rattle.bits.specs.Windows.{putLittle}
+use Rattle.bits.proofs.Windows.{put-bytes}
 use borrow.Author.Needs.{needs}
-use Rattle.bits.proofs.Windows.{set-byte}
 use Rattle.bits.proofs.put_byte.Statement.{statement}
 use Rattle.bits.proofs.put_byte.Tie as tie
 
@@ -12,10 +15,11 @@ same-length : tie.Need-same-length
 same-length c = search needs
 
 returns : tie.Need-returns
+unfolding putLittle
 returns c =
     let a = c .before .before .before .before .before .args in
-    c .before .before .store-byte .ensures
-    ∙ set-byte (a .bytes .now) (λ j. c .before .before .before .before .slice-known .given j .fits) (a .i) (a .v) (search needs) (search needs)
+    c .before .before .store-byte .ensures ∙ ap (set (a .bytes .now) (a .i)) (sym (mod-eq-of-lt (search needs)))
+    ∙ put-bytes (a .bytes .now) (λ j. c .before .before .before .before .slice-known .given j .fits) (a .i) 1 (a .v) (search needs)
 
 pub put-byte-spec : {M : Type 1} → statement M
 put-byte-spec = tie.close (tie.spec store-byte-requires same-length returns)

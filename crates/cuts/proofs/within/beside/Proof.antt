@@ -1,5 +1,4 @@
 -- The two tests are the two parts.
-use native.Mathlib.Omega.{arith}
 use Rattle.nodes.proofs.Tables.{says-no}
 use borrow.Author.Needs.{needs}
 use Rattle.cuts.proofs.within.beside.Statement.{statement}

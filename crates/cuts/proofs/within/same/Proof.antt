@@ -1,5 +1,4 @@
 -- The bits of the words, masked, are compared word by word.
-use native.Mathlib.Omega.{arith}
 use Rattle.nodes.proofs.Tables.{says-equal}
 use Rattle.cuts.proofs.Masks.{same-is, is-same}
 use borrow.Author.Needs.{needs}

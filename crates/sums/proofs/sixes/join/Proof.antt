@@ -1,6 +1,6 @@
 -- The words of x, masked and added, are those of the law.
-use mathlib.Core.Path.{ap, _∙_}
-use Prim.Native.Nat.{ℕ, _+_, _/_, _^_}
+use mathlib.Core.Path.{ap}
+use Prim.Native.Nat.{ℕ, _+_}
 use native.Mathlib.Omega.{arith}
 use lib.Bits.{bitAnd}
 use Rattle.sums.proofs.Abreast.{join-small, join-exact, join-words}

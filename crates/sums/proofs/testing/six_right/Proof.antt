@@ -25,7 +25,7 @@ same c =
 right : (c : tie.After-six-rows) → Same c → SixAt (c .before .before .before .args .m) (c .before .before .before .args .bytes .now) (c .before .before .before .args .j)
 right c =
     let a = c .before .before .before .args in
-    same-six (c .six-rows .ensures) (a .m) (a .bytes .now) (a .j) (c .before .get-eight .ensures)
+    same-six (c .six-rows .ensures .six) (a .m) (a .bytes .now) (a .j) (c .before .get-eight .ensures)
 
 -- the first w of 64 bits
 first : (n w : ℕ) {m : ℕ} → n ≡ m → n % 2 ^ w ≡ m % 2 ^ w

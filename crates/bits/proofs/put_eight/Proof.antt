@@ -1,0 +1,47 @@
+-- Two fields of 32 bits, side by side, are one of 64.
+use mathlib.Core.Path.{_≡_, ap₂, _∙_}
+use mathlib.Core.List.{List}
+use Prim.Native.Nat.{ℕ, _+_, _*_, _/_}
+use native.Mathlib.Omega.{arith}
+use Rattle.bits.specs.Bits.{putField}
+use Rattle.bits.proofs.Puts.{put-join}
+use borrow.Author.Needs.{needs}
+use Rattle.bits.proofs.put_eight.Statement.{statement}
+use Rattle.bits.proofs.put_eight.Tie as tie
+
+cast-put-four : tie.Need-cast-put-four
+cast-put-four c = search needs
+
+put-four-requires : tie.Need-put-four-requires
+put-four-requires c κs = search needs
+
+add-put-four : tie.Need-add-put-four
+add-put-four c = search needs
+
+cast-put-four-2 : tie.Need-cast-put-four-2
+cast-put-four-2 c = search needs
+
+put-four-requires-2 : tie.Need-put-four-requires-2
+put-four-requires-2 c κs = search needs
+
+same-length : tie.Need-same-length
+same-length c = search needs
+
+returns : tie.Need-returns
+returns c =
+    let a = c .before .before .before .before .before .before .before .before .before .args in
+    let e : 8 * (a .i + 4) ≡ 8 * a .i + 32 = omega arith in
+    c .before .before .put-four2 .ensures ∙ ap₂ (λ (bs : List ℕ) (s : ℕ). putField bs s 32 (a .v / 4294967296)) (c .before .before .before .before .before .before .put-four .ensures) e
+    ∙ put-join (a .bytes .now) (8 * a .i) 32 32 (a .v)
+
+pub put-eight-spec : {M : Type 1} → statement M
+put-eight-spec =
+    tie.close
+    (tie.spec
+    cast-put-four
+    put-four-requires
+    add-put-four
+    cast-put-four-2
+    put-four-requires-2
+    same-length
+    returns)
