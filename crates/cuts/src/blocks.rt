@@ -58,7 +58,7 @@ fn parent_cut(bytes: &[u8], deep: usize, q: Node, c: u64) -> bool
     is_cut_above(bytes, deep, Node(q.0 / 2), 6)
 }
 
-// Whether each cut node across from q's long side and its children's is as it should be.
+// Whether each cut node along the long sides of q and of its children has none or a cut node across it.
 fn sides_follow(bytes: &[u8], deep: usize, q: Node, b: u64) -> bool
     requires { ⌜ Room deep (now bytes) × (2 ≤ q .0) × (depthOf (q .0) + 6 ≡ deep) × CutWord (Cut deep (leafBit deep (now bytes))) (q .0) b ⌝ }
     ensures { λ r. ⌜ Says (SidesFollow (Cut deep (leafBit deep (now (bytes .entry)))) (q .0)) r ⌝ }

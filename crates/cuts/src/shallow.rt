@@ -56,7 +56,7 @@ fn root_follows(b: u64) -> bool
     false
 }
 
-// Whether all nodes that are cut may be. Node 1 alone may.
+// Whether all nodes that are cut may be. Where node 1 alone is cut, nothing is asked.
 pub fn shallow_follow(bytes: &[u8], deep: usize) -> bool
     requires { ⌜ Room deep (now bytes) × (deep ≤ 6) ⌝ }
     ensures { λ r. ⌜ Says (AllFollow deep (leafBit deep (now (bytes .entry)))) r ⌝ }

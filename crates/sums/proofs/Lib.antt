@@ -4,7 +4,7 @@ pub mod Rows
 pub mod Pairs
 pub mod Abreast
 pub mod Steps
-pub mod Lowest
+pub mod LowThree
 pub mod LowSix
 pub mod Leaves
 pub mod Unique

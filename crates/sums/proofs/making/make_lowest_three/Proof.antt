@@ -6,7 +6,7 @@ use lib.ListN.{length}
 use Rattle.sums.specs.Rows.{SevenAt}
 use Rattle.sums.proofs.Rooms.{Quarter, quarter}
 use Rattle.sums.proofs.Steps.{Blockwise, blocks-none}
-use Rattle.sums.proofs.Lowest.{seven-next, seven-all}
+use Rattle.sums.proofs.LowThree.{seven-next, seven-all}
 use Rattle.sums.proofs.making.make_lowest_three.Statement.{statement}
 use Rattle.sums.proofs.making.make_lowest_three.Tie as tie
 

@@ -5,7 +5,7 @@ use native.Mathlib.Omega.{arith}
 use Rattle.bits.proofs.Laws.{field-lt}
 use Rattle.bits.proofs.Puts.{puts-are}
 use Rattle.sums.specs.Rows.{SevenMade}
-use Rattle.sums.proofs.Lowest.{sevenPuts, seven-made}
+use Rattle.sums.proofs.LowThree.{sevenPuts, seven-made}
 use borrow.Author.Needs.{needs}
 use Rattle.sums.proofs.making.make_seven.Statement.{statement}
 use Rattle.sums.proofs.making.make_seven.Tie as tie

@@ -7,7 +7,7 @@ use borrow.Author.Count.{below-none, below-more}
 use Rattle.nodes.proofs.Tables.{says-yes, says-no}
 use Rattle.sums.specs.Rows.{SevenAt}
 use Rattle.sums.proofs.Rooms.{Quarter, quarter}
-use Rattle.sums.proofs.Lowest.{sevens-sums, sums-seven}
+use Rattle.sums.proofs.LowThree.{sevens-sums, sums-seven}
 use Rattle.sums.proofs.testing.lowest_three.Statement.{statement}
 use Rattle.sums.proofs.testing.lowest_three.Tie as tie
 

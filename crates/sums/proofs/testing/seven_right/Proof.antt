@@ -5,7 +5,7 @@ use native.Mathlib.Omega.{arith}
 use borrow.Author.Needs.{needs}
 use Rattle.bits.proofs.Laws.{field-lt}
 use Rattle.nodes.proofs.Tables.{says-equal}
-use Rattle.sums.proofs.Lowest.{same-seven, sevens-are, are-sevens}
+use Rattle.sums.proofs.LowThree.{same-seven, sevens-are, are-sevens}
 use Rattle.sums.proofs.testing.seven_right.Statement.{statement}
 use Rattle.sums.proofs.testing.seven_right.Tie as tie
 
