@@ -15,8 +15,7 @@ use Rattle.nodes.specs.Neighbours.{edge}
 use Rattle.nodes.proofs.Depths.{At, at-from, at-depth, at-below, pow-next}
 use Rattle.nodes.proofs.Edges.{edge-low, edge-mutual, edge-first}
 use Rattle.sums.specs.Words.{leafBit, Room}
-use Rattle.sums.proofs.Rooms.{bounds}
-use Rattle.sums.proofs.LowSix.{pow-six}
+use Rattle.sums.proofs.Rooms.{bounds, whole-words}
 use Rattle.cuts.specs.Cuts.{named, Cut, GoodCuts}
 use Rattle.cuts.specs.Steps.{Follows, AcrossCut, PlaceFollows, AllFollow, CutWord, Same, Beside, ParentsBeside, InnerSame, TopSame, Outer, Mirrored, OuterAcross, RootFollows, BelowFollow, BlockFollows}
 use Rattle.cuts.proofs.Following.{good-follows, place-cut}
@@ -369,7 +368,7 @@ module _ (D e : ℕ) (h : e + 6 ≡ D) (l : D ≤ 17) (bs : List ℕ) (q : ℕ) 
   unfolding leafBit
   names-bit d j n i at g k r =
       let s = cut-set D (leafBit D bs) (omega arith) (cut-place D d j n (omega arith) at g) in
-      let same : digit word i ≡ bit bs (3 * 2 ^ D + ((2 * n + 1) * 2 ^ j - 2 ^ D)) = run-digit (bit bs) (bit-lt bs) (8 * (16 * 2 ^ e + 8 * q)) 64 i k ∙ ap (bit bs) (omega (arith, pow-six D e h, a .low)) in
+      let same : digit word i ≡ bit bs (3 * 2 ^ D + ((2 * n + 1) * 2 ^ j - 2 ^ D)) = run-digit (bit bs) (bit-lt bs) (8 * (16 * 2 ^ e + 8 * q)) 64 i k ∙ ap (bit bs) (omega (arith, whole-words D e h, a .low)) in
       (λ p. same ∙ s .0 p, λ p. s .1 (sym same ∙ p))
 
   pub cut-word : CutWord (Cut D (leafBit D bs)) q word
@@ -397,7 +396,7 @@ pub below : {D q : ℕ} {bs : List ℕ} → Room D bs → 1 ≤ q → depthOf q 
 below {D} {q} r l h =
     let a : At (D - 6) q = subst (λ d. At d q) (let e : depthOf q ≡ D - 6 = omega arith in e) (at-depth l) in
     let b = bounds r in
-    let f = pow-six D (D - 6) (omega arith) in
+    let f = whole-words D (D - 6) (omega arith) in
     record {
       at = a;
       is = one-shl (D - 2) 64 (omega arith) ∙ ap (λ x. 2 ^ x) (let e : D - 2 ≡ D - 6 + 4 = omega arith in e) ∙ pow-add 2 (D - 6) 4 ∙ omega arith;
@@ -417,7 +416,7 @@ cut-follows {D} {f} all n c = subst (Follows (Cut D f)) (c .names) (all (c .plac
 -- a place is the first of its word, or names one of the nodes below its word's node
 module _ (D : ℕ) (f : ℕ → ℕ) (low : 7 ≤ D) (high : D ≤ 17) where
   deep : 2 ^ D ≡ 64 * 2 ^ (D - 6)
-  deep = pow-six D (D - 6) (omega arith)
+  deep = whole-words D (D - 6) (omega arith)
 
   pub blocks-all : ((j : ℕ) → j < 2 ^ (D - 6) → BlockFollows D f j) → AllFollow D f
   blocks-all all p h l s = go (ℕ-discrete (p % 64) 0)

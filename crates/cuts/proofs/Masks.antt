@@ -6,8 +6,8 @@ use lib.Pow.{pow-mono}
 use lib.Bits.{bitAnd, and-le-l, and-le-r}
 use Rattle.bits.specs.Bits.{digit}
 use Rattle.bits.proofs.Laws.{digit-lt}
-use Rattle.sums.specs.Rows.{abreast, Ones}
-use Rattle.sums.proofs.Abreast.{bits-at, and-words, words-same, same-words}
+use Rattle.bits.specs.Abreast.{abreast, Ones}
+use Rattle.bits.proofs.Abreast.{bits-at, and-words, words-same, same-words}
 use Rattle.cuts.specs.Steps.{Under, Same}
 
 bit-fits : (n v k : ℕ) → 1 ≤ v → digit n k < 2 ^ v

@@ -13,8 +13,8 @@ use Rattle.bits.specs.Bits.{digit, bit, field}
 use Rattle.bits.proofs.Laws.{one-shl, run-digit, bit-lt, digit-lt, digit-shift, order}
 use Rattle.nodes.proofs.Depths.{At, at-from, at-root, depth-is, pow-next}
 use Rattle.sums.specs.Words.{leafBit, Room}
-use Rattle.sums.specs.Rows.{part, abreast}
-use Rattle.sums.proofs.Abreast.{same-words, abreast-lt, word-digit, times, one-word, halved, ones-halved}
+use Rattle.bits.specs.Abreast.{part, abreast}
+use Rattle.bits.proofs.Abreast.{same-words, abreast-lt, word-digit, times, one-word, halved, ones-halved}
 use Rattle.sums.proofs.Pairs.{field-high}
 use Rattle.sums.proofs.Rooms.{bounds}
 use Rattle.cuts.specs.Cuts.{named, Cut}

@@ -8,7 +8,7 @@ ghost use Prim.Native.Nat.{_-_, _*_, _^_, _≤_, _<_};
 ghost use Rattle.bits.specs.Bits.{digit, field};
 ghost use Rattle.nodes.specs.Table.{Says};
 ghost use Rattle.sums.specs.Words.{leafBit, Room};
-ghost use Rattle.sums.specs.Rows.{abreast};
+ghost use Rattle.bits.specs.Abreast.{abreast};
 ghost use Rattle.cuts.specs.Steps.{AllFollow, RootFollows};
 
 // The leaf bits of a panel of depth up to 6, as one number. They end at byte 2^(D-1), and the bytes before them hold sums.

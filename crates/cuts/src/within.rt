@@ -2,7 +2,7 @@
 // children in bits 16 and 48, and so on to its odd bits. Its bit 0, but for that of the first word, names a node higher up.
 ghost use Prim.Native.Nat.{_*_, _/_, _≤_, _<_};
 ghost use Rattle.nodes.specs.Table.{Says};
-ghost use Rattle.sums.specs.Rows.{Ones};
+ghost use Rattle.bits.specs.Abreast.{Ones};
 ghost use Rattle.cuts.specs.Steps.{Under, Same, Beside, ParentsBeside, InnerSame, TopSame, Crossed, Mirrored};
 
 // Whether in each word of v bits of x bit a is set only where bit b is.

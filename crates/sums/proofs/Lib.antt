@@ -2,7 +2,7 @@ pub mod Slots
 pub mod Rooms
 pub mod Rows
 pub mod Pairs
-pub mod Abreast
+pub mod SixSums
 pub mod Steps
 pub mod LowThree
 pub mod LowSix

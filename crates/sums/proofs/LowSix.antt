@@ -13,6 +13,7 @@ use Rattle.bits.proofs.Puts.{Put, puts, length-puts, field-aside, puts-hold}
 use Rattle.nodes.proofs.Depths.{pow-next}
 use Rattle.sums.specs.Rows.{SumsBetween, Made, PairSums, Six, SixOver, SixAt, ApartSix, SixMade}
 use Rattle.sums.proofs.Slots.{from, from-leaf}
+use Rattle.sums.proofs.Rooms.{whole-words}
 use Rattle.sums.proofs.Rows.{from-row, sums-join}
 use Rattle.sums.proofs.Pairs.{pairs-sums, sums-pairs, pairs-one}
 use Rattle.sums.proofs.Steps.{Blockwise, blocks-next, blocks-all}
@@ -60,9 +61,6 @@ same-six s m bs j ex t = record {
 module _ (D e : ℕ) (h : e + 6 ≡ D) where
   abbrev m : ℕ
   m = 2 ^ e
-
-  pub pow-six : 2 ^ D ≡ 64 * m
-  pow-six = ap (λ (x : ℕ). 2 ^ x) (sym h) ∙ pow-add 2 e 6 ∙ omega arith
 
   module _ (bs : List ℕ) (j : ℕ) (l : j < m) where
     -- the n words of w bits, g rows down
@@ -141,7 +139,7 @@ module _ (D e : ℕ) (h : e + 6 ≡ D) where
 
   -- the six rows are right where they are over each 64 leaf bits
   pub six-sums : (bs : List ℕ) → ((j : ℕ) → j < m → SixAt m bs j) → SumsBetween D bs m (2 ^ D)
-  six-sums bs s = subst (SumsBetween D bs m) (sym pow-six)
+  six-sums bs s = subst (SumsBetween D bs m) (sym (whole-words D e h))
       (sums-join D bs m (2 * m) (64 * m) (λ k lo hi. let j = k - m in let l : j < m = omega arith in right-here bs j l 0 1 6 refl (omega arith) refl (p0 bs j l) (p1 bs j l) (s j l .all) k (omega arith) (omega arith))
       (sums-join D bs (2 * m) (4 * m) (64 * m) (λ k lo hi. let j = k / 2 - m in let l : j < m = omega arith in right-here bs j l 1 2 5 refl (omega arith) refl (p1 bs j l) (p2 bs j l) (s j l .halves) k (omega arith) (omega arith))
       (sums-join D bs (4 * m) (8 * m) (64 * m) (λ k lo hi. let j = k / 4 - m in let l : j < m = omega arith in right-here bs j l 2 4 4 refl (omega arith) refl (p2 bs j l) (p3 bs j l) (s j l .sixteens) k (omega arith) (omega arith))
@@ -197,5 +195,5 @@ module _ {m i : ℕ} (h : i < m) where
 -- all of them
 pub six-all : (D e : ℕ) → e + 6 ≡ D → {i : ℕ} {xs ys : List ℕ} → 2 ^ e ≤ i → Blockwise (SixAt (2 ^ e)) (9 * 2 ^ e) (192 * 2 ^ e) i xs ys → Made D (2 ^ e) (2 ^ D) xs ys
 six-all D e h {i} {xs} {ys} l s =
-    blocks-all (omega (arith, from-row D e 7 (omega arith) (omega arith) 0 (2 ^ e) (omega arith) (omega arith), pow-next e)) (omega (arith, from-leaf D, pow-six D e h))
+    blocks-all (omega (arith, from-row D e 7 (omega arith) (omega arith) 0 (2 ^ e) (omega arith) (omega arith), pow-next e)) (omega (arith, from-leaf D, whole-words D e h))
     (six-sums D e h ys (λ j x. s .sums j (omega arith))) s

@@ -9,7 +9,8 @@ use Rattle.bits.specs.Bits.{digit, bit, field}
 use Rattle.bits.proofs.Laws.{run-ext, run-digit, run-digits, bit-lt, field-lt}
 use Rattle.nodes.proofs.Depths.{pow-next}
 use Rattle.sums.specs.Words.{word}
-use Rattle.sums.specs.Rows.{SumAt, SumsBetween, part, PairSums}
+use Rattle.bits.specs.Abreast.{part}
+use Rattle.sums.specs.Rows.{SumAt, SumsBetween, PairSums}
 use Rattle.sums.proofs.Slots.{from}
 use Rattle.sums.proofs.Rows.{word-at, from-at}
 

@@ -1,5 +1,5 @@
 -- Where the words have room, every place that the code computes fits the machine's numbers and lies inside.
-use mathlib.Core.Path.{_≡_, ap, _∙_}
+use mathlib.Core.Path.{_≡_, sym, ap, _∙_}
 use mathlib.Core.List.{List}
 use Prim.Native.Nat.{ℕ, _+_, _-_, _*_, _%_, _^_, _≤_, _<_}
 use native.Mathlib.Omega.{arith}
@@ -14,6 +14,10 @@ use Rattle.sums.proofs.Slots.{from, in-panel}
 -- the leaf bits fill whole bytes
 pub whole-bytes : (D : ℕ) → 3 ≤ D → 2 ^ D ≡ 8 * 2 ^ (D - 3)
 whole-bytes D h = ap (λ (x : ℕ). 2 ^ x) {x = D} {y = D - 3 + 3} (omega arith) ∙ pow-add 2 (D - 3) 3 ∙ omega arith
+
+-- .. and from depth 6 on whole words of 64 bits
+pub whole-words : (D e : ℕ) → e + 6 ≡ D → 2 ^ D ≡ 64 * 2 ^ e
+whole-words D e h = ap (λ (x : ℕ). 2 ^ x) (sym h) ∙ pow-add 2 e 6 ∙ omega arith
 
 -- all words take four times the place of the leaf bits
 pub record Bounds (D : ℕ) : Type 0 where
@@ -94,5 +98,5 @@ pub record Blocks (D len m : ℕ) : Type 0 where
 pub blocks : {D : ℕ} {bs : List ℕ} → Room D bs → 6 ≤ D → Blocks D (length bs) (blocksOf D)
 blocks {D} r h =
     let e = one-shl (D - 6) 64 (omega arith) in
-    let f : 2 ^ D ≡ 64 * 2 ^ (D - 6) = ap (λ (x : ℕ). 2 ^ x) {x = D} {y = D - 6 + 6} (omega arith) ∙ pow-add 2 (D - 6) 6 ∙ omega arith in
+    let f = whole-words D (D - 6) (omega arith) in
     record { is = e; small = omega (arith, bounds r); inside = omega (arith, bounds r) }

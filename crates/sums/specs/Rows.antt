@@ -2,9 +2,10 @@
 use mathlib.Core.Path.{_≡_}
 use mathlib.Core.Logic.{_⊎_}
 use mathlib.Core.List.{List}
-use Prim.Native.Nat.{ℕ, zero, suc, _+_, _-_, _*_, _/_, _%_, _^_, _≤_, _<_}
+use Prim.Native.Nat.{ℕ, _+_, _*_, _/_, _%_, _^_, _≤_, _<_}
 use lib.ListN.{length}
 use Rattle.bits.specs.Bits.{bit, field, Apart}
+use Rattle.bits.specs.Abreast.{part}
 use Rattle.nodes.specs.Depth.{depthOf}
 use Rattle.sums.specs.Words.{start, word}
 
@@ -27,10 +28,6 @@ pub record MadeHere (Clear : ℕ → ℕ → Type 0) (Sums : List ℕ → Type 0
   pub long : length ys ≡ length xs
   pub same : (s w : ℕ) → Clear s w → field ys s w ≡ field xs s w
   pub sums : Sums ys
-
--- number i of the words of w bits that stand side by side in x
-abbrev pub part : ℕ → ℕ → ℕ → ℕ
-part w x i = x / 2 ^ (i * w) % 2 ^ w
 
 -- the n words of w + 1 bits in y are the sums of those of w bits in x, two by two
 abbrev pub PairSums : ℕ → ℕ → ℕ → ℕ → Type 0
@@ -62,34 +59,6 @@ pub record Sevens (x n : ℕ) : Type 0 where
   pub right : Seven x (n % 256) (n / 256 % 64) (n / 16384)
 
 -- ---- 64 leaf bits
-
--- the n words f 0, f 1, .. of w bits side by side in one number, the lowest first
-unfoldable pub abreast : ℕ → ℕ → (ℕ → ℕ) → ℕ
-abreast zero w f = 0
-abreast (suc n) w f = abreast n w (λ i. f (suc i)) * 2 ^ w + f 0
-
--- words of 2 w bits fill 64 bits, and mask has the lower half of each set
-pub record Halves (w mask : ℕ) : Type 0 where
-  pub low : w ≤ 32
-  pub whole : 32 / w * (2 * w) ≡ 64
-  pub is : mask ≡ abreast (32 / w) (2 * w) (λ i. 2 ^ w - 1)
-
--- the first bit of each word of v bits is set in mask, and no other
-pub record Ones (v mask : ℕ) : Type 0 where
-  pub is : mask ≡ abreast (64 / v) v (λ i. 1)
-  pub some : 1 ≤ v
-
--- the n words of v bits in x use only w of them
-pub record Narrow (n v w x : ℕ) : Type 0 where
-  pub lt : (i : ℕ) → i < n → part v x i < 2 ^ w
-
--- the n words of 2 w bits in r are those of w bits in x, two by two: the first, and the second s places up
-pub record Joined (n w s x r : ℕ) : Type 0 where
-  pub two : (i : ℕ) → i < n → part (2 * w) r i ≡ part w x (2 * i) + part w x (2 * i + 1) * 2 ^ s
-
--- r is the n words of v bits in x, in w bits each
-pub record Packed (n v w x r : ℕ) : Type 0 where
-  pub is : r ≡ abreast n w (part v x)
 
 -- six rows of sums over the 64 bits in x: 32 words of two bits in a, 16 of three bits in b, and so on to one of seven bits in f
 pub record Six (x a b c d e f : ℕ) : Type 0 where

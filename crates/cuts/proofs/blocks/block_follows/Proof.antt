@@ -8,8 +8,7 @@ use Rattle.nodes.specs.Table.{Says}
 use Rattle.nodes.proofs.Depths.{at-from, depth-is, pow-next}
 use Rattle.nodes.proofs.Tables.{says-no}
 use Rattle.sums.specs.Words.{leafBit}
-use Rattle.sums.proofs.Rooms.{blocksOf, Blocks, blocks}
-use Rattle.sums.proofs.LowSix.{pow-six}
+use Rattle.sums.proofs.Rooms.{blocksOf, Blocks, blocks, whole-words}
 use Rattle.cuts.specs.Cuts.{Cut}
 use Rattle.cuts.specs.Steps.{BelowFollow}
 use borrow.Author.Needs.{needs}
@@ -26,7 +25,7 @@ mul-place-follows : tie.Need-mul-place-follows
 mul-place-follows c = omega (arith, start (c .before))
 
 place-follows-requires : tie.Need-place-follows-requires
-place-follows-requires c κs = (c .before .pre .0, omega (arith, pow-six (c .before .args .deep) (c .before .args .deep - 6) (omega arith)))
+place-follows-requires c κs = (c .before .pre .0, omega (arith, whole-words (c .before .args .deep) (c .before .args .deep - 6) (omega arith)))
 
 sub-t6 : tie.Need-sub-t6
 sub-t6 c = search needs

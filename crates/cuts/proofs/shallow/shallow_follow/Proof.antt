@@ -6,7 +6,7 @@ use Rattle.bits.specs.Bits.{digit}
 use Rattle.bits.proofs.Laws.{field-lt}
 use Rattle.nodes.proofs.Tables.{says-yes}
 use Rattle.sums.specs.Words.{leafBit}
-use Rattle.sums.specs.Rows.{abreast}
+use Rattle.bits.specs.Abreast.{abreast}
 use Rattle.cuts.specs.Cuts.{Cut}
 use Rattle.cuts.specs.Steps.{CutWord}
 use Rattle.cuts.proofs.LeafWords.{root-all, all-root}

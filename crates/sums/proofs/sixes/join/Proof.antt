@@ -3,7 +3,7 @@ use mathlib.Core.Path.{ap}
 use Prim.Native.Nat.{ℕ, _+_}
 use native.Mathlib.Omega.{arith}
 use lib.Bits.{bitAnd}
-use Rattle.sums.proofs.Abreast.{join-small, join-exact, join-words}
+use Rattle.bits.proofs.Abreast.{join-small, join-exact, join-words}
 use Rattle.sums.proofs.sixes.join.Statement.{statement}
 use Rattle.sums.proofs.sixes.join.Tie as tie
 

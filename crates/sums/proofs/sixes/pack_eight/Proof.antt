@@ -1,7 +1,7 @@
 -- Eight words joined two by two are four wider ones, which are packed.
 use native.Mathlib.Omega.{arith}
 use borrow.Author.Needs.{needs}
-use Rattle.sums.proofs.Abreast.{halves-8, pack-narrow, pack-step}
+use Rattle.bits.proofs.Abreast.{halves-8, pack-narrow, pack-step}
 use Rattle.sums.proofs.sixes.pack_eight.Statement.{statement}
 use Rattle.sums.proofs.sixes.pack_eight.Tie as tie
 

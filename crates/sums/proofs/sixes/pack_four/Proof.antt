@@ -1,7 +1,7 @@
 -- Four words joined two by two are two wider ones, which are packed.
 use native.Mathlib.Omega.{arith}
 use borrow.Author.Needs.{needs}
-use Rattle.sums.proofs.Abreast.{halves-16, pack-narrow, pack-step}
+use Rattle.bits.proofs.Abreast.{halves-16, pack-narrow, pack-step}
 use Rattle.sums.proofs.sixes.pack_four.Statement.{statement}
 use Rattle.sums.proofs.sixes.pack_four.Tie as tie
 

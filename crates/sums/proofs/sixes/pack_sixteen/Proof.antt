@@ -1,7 +1,7 @@
 -- Sixteen words joined two by two are eight wider ones, which are packed.
 use native.Mathlib.Omega.{arith}
 use borrow.Author.Needs.{needs}
-use Rattle.sums.proofs.Abreast.{halves-4, pack-narrow, pack-step}
+use Rattle.bits.proofs.Abreast.{halves-4, pack-narrow, pack-step}
 use Rattle.sums.proofs.sixes.pack_sixteen.Statement.{statement}
 use Rattle.sums.proofs.sixes.pack_sixteen.Tie as tie
 

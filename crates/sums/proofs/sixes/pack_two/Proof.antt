@@ -2,7 +2,7 @@
 use mathlib.Core.Path.{sym}
 use Prim.Native.Nat.{_*_}
 use native.Mathlib.Omega.{arith}
-use Rattle.sums.proofs.Abreast.{halves-32, pack-step, one-word}
+use Rattle.bits.proofs.Abreast.{halves-32, pack-step, one-word}
 use Rattle.sums.proofs.sixes.pack_two.Statement.{statement}
 use Rattle.sums.proofs.sixes.pack_two.Tie as tie
 

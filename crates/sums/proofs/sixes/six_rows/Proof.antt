@@ -1,6 +1,7 @@
 -- Each row's words are sums of those of the row below, and packing leaves them.
 use native.Mathlib.Omega.{arith}
-use Rattle.sums.proofs.Abreast.{halves-1, halves-2, halves-4, halves-8, halves-16, halves-32, fours-narrow, eights-narrow, sixteens-narrow, halves-narrow, six-over}
+use Rattle.bits.proofs.Abreast.{halves-1, halves-2, halves-4, halves-8, halves-16, halves-32}
+use Rattle.sums.proofs.SixSums.{fours-narrow, eights-narrow, sixteens-narrow, halves-narrow, six-over}
 use Rattle.sums.proofs.sixes.six_rows.Statement.{statement}
 use Rattle.sums.proofs.sixes.six_rows.Tie as tie
 
