@@ -17,7 +17,7 @@ use Rattle.nodes.proofs.Edges.{edge-low, edge-mutual, edge-first}
 use Rattle.sums.specs.Words.{leafBit, Room}
 use Rattle.sums.proofs.Rooms.{bounds, whole-words}
 use Rattle.cuts.specs.Cuts.{named, Cut, GoodCuts}
-use Rattle.cuts.specs.Steps.{Follows, AcrossCut, PlaceFollows, AllFollow, CutWord, Same, Beside, ParentsBeside, InnerSame, TopSame, Outer, Mirrored, OuterAcross, RootFollows, BelowFollow, BlockFollows}
+use Rattle.cuts.specs.Steps.{Follows, AcrossCut, PlaceFollows, AllFollow, CutWord, Same, Beside, ParentsBeside, InnerSame, TopSame, Mirrored, OuterAcross, RootFollows, BelowFollow, BlockFollows}
 use Rattle.cuts.proofs.Following.{good-follows, place-cut}
 use Rattle.cuts.proofs.Places.{place-name, names-named, cut-place, cut-set}
 use Rattle.cuts.proofs.Crossing.{two, first-none, first-some, second-across, third-across, fourth-across, across-4, across-7, across-8, across-11, Both, Over, Across, Pairs, across, root-across, levels}
@@ -112,6 +112,16 @@ module _ (P : ℕ → Type 0) (q : ℕ) where
     top-both g = record { middle = middle-both 0 q (omega arith) (omega arith) g; outer = outer-both 0 q (omega arith) (omega arith) g; inner = inner-both 0 q (omega arith) (omega arith) g }
 
 -- ---- the leaf word says it
+
+-- the seven nodes along the long side of m, and their bits in w
+pub record Outer (P : ℕ → Type 0) (s m w : ℕ) : Type 0 where
+  pub own : P m ↔ (digit w (16 * s) ≡ 1)
+  pub first : P (4 * m) ↔ (digit w (4 * s) ≡ 1)
+  pub last : P (4 * m + 3) ↔ (digit w (28 * s) ≡ 1)
+  pub first-first : P (16 * m) ↔ (digit w s ≡ 1)
+  pub first-last : P (16 * m + 3) ↔ (digit w (7 * s) ≡ 1)
+  pub last-first : P (16 * m + 12) ↔ (digit w (25 * s) ≡ 1)
+  pub last-last : P (16 * m + 15) ↔ (digit w (31 * s) ≡ 1)
 
 -- a bit is at most another where that is set beside it
 beside : (x y : ℕ) → x < 2 → (x ≡ 1 → y ≡ 1) → x ≤ y
@@ -302,23 +312,23 @@ module _ {P : ℕ → Type 0} {s m w : ℕ} (low : 2 ≤ m) (o : Outer P s m w) 
     abbrev e : ℕ
     e = edge m
 
-    edge-own-4 : edge (4 * m) ≡ 4 * e + 3
-    edge-own-4 = first-some m low z
+    first-edge : edge (4 * m) ≡ 4 * e + 3
+    first-edge = first-some m low z
 
-    edge-own-7 : edge (4 * m + 3) ≡ 4 * e
-    edge-own-7 = fourth-across m low
+    last-edge : edge (4 * m + 3) ≡ 4 * e
+    last-edge = fourth-across m low
 
-    edge-16 : edge (16 * m) ≡ 16 * e + 15
-    edge-16 = ap edge (let h : 16 * m ≡ 4 * (4 * m) = omega arith in h) ∙ first-some (4 * m) (omega arith) (omega (arith, edge-own-4)) ∙ omega (arith, edge-own-4)
+    first-first-edge : edge (16 * m) ≡ 16 * e + 15
+    first-first-edge = ap edge (let h : 16 * m ≡ 4 * (4 * m) = omega arith in h) ∙ first-some (4 * m) (omega arith) (omega (arith, first-edge)) ∙ omega (arith, first-edge)
 
-    edge-19 : edge (16 * m + 3) ≡ 16 * e + 12
-    edge-19 = ap edge (let h : 16 * m + 3 ≡ 4 * (4 * m) + 3 = omega arith in h) ∙ fourth-across (4 * m) (omega arith) ∙ omega (arith, edge-own-4)
+    first-last-edge : edge (16 * m + 3) ≡ 16 * e + 12
+    first-last-edge = ap edge (let h : 16 * m + 3 ≡ 4 * (4 * m) + 3 = omega arith in h) ∙ fourth-across (4 * m) (omega arith) ∙ omega (arith, first-edge)
 
-    edge-28 : edge (16 * m + 12) ≡ 16 * e + 3
-    edge-28 = ap edge (let h : 16 * m + 12 ≡ 4 * (4 * m + 3) = omega arith in h) ∙ first-some (4 * m + 3) (omega arith) (omega (arith, edge-own-7)) ∙ omega (arith, edge-own-7)
+    last-first-edge : edge (16 * m + 12) ≡ 16 * e + 3
+    last-first-edge = ap edge (let h : 16 * m + 12 ≡ 4 * (4 * m + 3) = omega arith in h) ∙ first-some (4 * m + 3) (omega arith) (omega (arith, last-edge)) ∙ omega (arith, last-edge)
 
-    edge-31 : edge (16 * m + 15) ≡ 16 * e
-    edge-31 = ap edge (let h : 16 * m + 15 ≡ 4 * (4 * m + 3) + 3 = omega arith in h) ∙ fourth-across (4 * m + 3) (omega arith) ∙ omega (arith, edge-own-7)
+    last-last-edge : edge (16 * m + 15) ≡ 16 * e
+    last-last-edge = ap edge (let h : 16 * m + 15 ≡ 4 * (4 * m + 3) + 3 = omega arith in h) ∙ fourth-across (4 * m + 3) (omega arith) ∙ omega (arith, last-edge)
 
     module _ {x : ℕ} (y : Outer P s e x) where
       there : (n k a c : ℕ) → edge n ≡ k → P n ↔ (digit w a ≡ 1) → P k ↔ (digit x c ≡ 1) → digit w a ≤ digit x c → P n → AcrossCut P n
@@ -330,12 +340,12 @@ module _ {P : ℕ → Type 0} {s m w : ℕ} (low : 2 ≤ m) (o : Outer P s m w) 
       pub mirrored-across : Mirrored s w x → OuterAcross P m
       mirrored-across r = record {
         own = there m e (16 * s) (16 * s) refl (o .own) (y .own) (r .own .there);
-        first = there (4 * m) (4 * e + 3) (4 * s) (28 * s) edge-own-4 (o .first) (y .last) (r .outer .there);
-        last = there (4 * m + 3) (4 * e) (28 * s) (4 * s) edge-own-7 (o .last) (y .first) (r .outer .back);
-        first-first = there (16 * m) (16 * e + 15) s (31 * s) edge-16 (o .first-first) (y .last-last) (r .outermost .there);
-        first-last = there (16 * m + 3) (16 * e + 12) (7 * s) (25 * s) edge-19 (o .first-last) (y .last-first) (r .next .there);
-        last-first = there (16 * m + 12) (16 * e + 3) (25 * s) (7 * s) edge-28 (o .last-first) (y .first-last) (r .next .back);
-        last-last = there (16 * m + 15) (16 * e) (31 * s) s edge-31 (o .last-last) (y .first-first) (r .outermost .back);
+        first = there (4 * m) (4 * e + 3) (4 * s) (28 * s) first-edge (o .first) (y .last) (r .outer .there);
+        last = there (4 * m + 3) (4 * e) (28 * s) (4 * s) last-edge (o .last) (y .first) (r .outer .back);
+        first-first = there (16 * m) (16 * e + 15) s (31 * s) first-first-edge (o .first-first) (y .last-last) (r .outermost .there);
+        first-last = there (16 * m + 3) (16 * e + 12) (7 * s) (25 * s) first-last-edge (o .first-last) (y .last-first) (r .next .there);
+        last-first = there (16 * m + 12) (16 * e + 3) (25 * s) (7 * s) last-first-edge (o .last-first) (y .first-last) (r .next .back);
+        last-last = there (16 * m + 15) (16 * e) (31 * s) s last-last-edge (o .last-last) (y .first-first) (r .outermost .back);
       }
 
       pub across-mirrored : OuterAcross P m → Mirrored s w x
@@ -344,16 +354,16 @@ module _ {P : ℕ → Type 0} {s m w : ℕ} (low : 2 ≤ m) (o : Outer P s m w) 
           record {
             own = record { there = own; back = own };
             outer = record {
-              there = back (4 * m) (4 * e + 3) (4 * s) (28 * s) edge-own-4 (omega (arith, edge-own-4)) (o .first) (y .last) (r .first);
-              back = back (4 * m + 3) (4 * e) (28 * s) (4 * s) edge-own-7 (omega (arith, edge-own-7)) (o .last) (y .first) (r .last);
+              there = back (4 * m) (4 * e + 3) (4 * s) (28 * s) first-edge (omega (arith, first-edge)) (o .first) (y .last) (r .first);
+              back = back (4 * m + 3) (4 * e) (28 * s) (4 * s) last-edge (omega (arith, last-edge)) (o .last) (y .first) (r .last);
             };
             outermost = record {
-              there = back (16 * m) (16 * e + 15) s (31 * s) edge-16 (omega (arith, edge-16)) (o .first-first) (y .last-last) (r .first-first);
-              back = back (16 * m + 15) (16 * e) (31 * s) s edge-31 (omega (arith, edge-31)) (o .last-last) (y .first-first) (r .last-last);
+              there = back (16 * m) (16 * e + 15) s (31 * s) first-first-edge (omega (arith, first-first-edge)) (o .first-first) (y .last-last) (r .first-first);
+              back = back (16 * m + 15) (16 * e) (31 * s) s last-last-edge (omega (arith, last-last-edge)) (o .last-last) (y .first-first) (r .last-last);
             };
             next = record {
-              there = back (16 * m + 3) (16 * e + 12) (7 * s) (25 * s) edge-19 (omega (arith, edge-19)) (o .first-last) (y .last-first) (r .first-last);
-              back = back (16 * m + 12) (16 * e + 3) (25 * s) (7 * s) edge-28 (omega (arith, edge-28)) (o .last-first) (y .first-last) (r .last-first);
+              there = back (16 * m + 3) (16 * e + 12) (7 * s) (25 * s) first-last-edge (omega (arith, first-last-edge)) (o .first-last) (y .last-first) (r .first-last);
+              back = back (16 * m + 12) (16 * e + 3) (25 * s) (7 * s) last-first-edge (omega (arith, last-first-edge)) (o .last-first) (y .first-last) (r .last-first);
             };
           }
 

@@ -57,34 +57,25 @@ pub record Beside (n s b : ℕ) : Type 0 where
 abbrev pub ParentsBeside : ℕ → Type 0
 ParentsBeside b = (t : ℕ) → t < 5 → Beside (2 ^ (4 - t)) (2 ^ t) b
 
--- nodes that stand across from each other below a node m below q: 4m + 1 and 4m + 2, 16m + 4 and 16m + 11, 16m + 7 and 16m + 8
+-- two nodes that stand across from each other are both cut or none, for each node m below q: 4m + 1 and 4m + 2, 16m + 4 and 16m + 11, 16m + 7 and 16m + 8
 pub record InnerSame (b : ℕ) : Type 0 where
   pub middle : (t : ℕ) → t < 3 → Same (2 ^ (3 - t)) (8 * 2 ^ t) (3 * 2 ^ t) (5 * 2 ^ t) b
   pub outer : Same 2 32 9 23 b
   pub inner : Same 2 32 15 17 b
 
--- .. and those for which m is q
+-- .. and for m = q
 pub record TopSame (b : ℕ) : Type 0 where
   pub middle : Same 1 64 24 40 b
   pub outer : Same 1 64 18 46 b
   pub inner : Same 1 64 30 34 b
-
--- seven nodes along the long side of m: m, and the outer two of four, and of these again. Their bits in w stand s apart, or a multiple of it
-pub record Outer (P : ℕ → Type 0) (s m w : ℕ) : Type 0 where
-  pub own : P m ↔ (digit w (16 * s) ≡ 1)
-  pub first : P (4 * m) ↔ (digit w (4 * s) ≡ 1)
-  pub last : P (4 * m + 3) ↔ (digit w (28 * s) ≡ 1)
-  pub first-first : P (16 * m) ↔ (digit w s ≡ 1)
-  pub first-last : P (16 * m + 3) ↔ (digit w (7 * s) ≡ 1)
-  pub last-first : P (16 * m + 12) ↔ (digit w (25 * s) ≡ 1)
-  pub last-last : P (16 * m + 15) ↔ (digit w (31 * s) ≡ 1)
 
 -- bit a of w is set only where bit c of x is, and bit c of w only where bit a of x is
 pub record Crossed (w x a c : ℕ) : Type 0 where
   pub there : digit w a ≤ digit x c
   pub back : digit w c ≤ digit x a
 
--- across the long side they stand in the other order
+-- w is the word below m and x the one below m's edge neighbour, with their bits s apart, or a multiple of it: of seven nodes along m's long side, m, and
+-- the outer two of four below it, and of these again, each is cut only where the one across from it is; there they stand in the other order
 pub record Mirrored (s w x : ℕ) : Type 0 where
   pub own : Crossed w x (16 * s) (16 * s)
   pub outer : Crossed w x (4 * s) (28 * s)
@@ -98,7 +89,7 @@ pub record RootFollows (b : ℕ) : Type 0 where
   pub there : Mirrored 1 b (b / 2 ^ 32)
   pub back : Mirrored 1 (b / 2 ^ 32) b
 
--- each of the seven that is cut has none or a cut node across its long side
+-- each of the seven that is cut has none or a cut node across it
 pub record OuterAcross (P : ℕ → Type 0) (m : ℕ) : Type 0 where
   pub own : P m → AcrossCut P m
   pub first : P (4 * m) → AcrossCut P (4 * m)
@@ -108,6 +99,7 @@ pub record OuterAcross (P : ℕ → Type 0) (m : ℕ) : Type 0 where
   pub last-first : P (16 * m + 12) → AcrossCut P (16 * m + 12)
   pub last-last : P (16 * m + 15) → AcrossCut P (16 * m + 15)
 
+-- along the long sides of q and of its children
 pub record SidesFollow (P : ℕ → Type 0) (q : ℕ) : Type 0 where
   pub own : OuterAcross P q
   pub left : OuterAcross P (2 * q)

@@ -5,7 +5,7 @@ ghost use Rattle.nodes.specs.Table.{Says};
 ghost use Rattle.bits.specs.Abreast.{Ones};
 ghost use Rattle.cuts.specs.Steps.{Under, Same, Beside, ParentsBeside, InnerSame, TopSame, Crossed, Mirrored};
 
-// Whether in each word of v bits of x bit a is set only where bit b is.
+// Whether in each word of v bits of x bit a is set only where bit b is. The mask has the first bit of each word.
 fn under(x: u64, mask: u64, v: u32, a: u32, b: u32) -> bool
     requires { ⌜ Ones v mask × (a < 64) × (b < 64) ⌝ }
     ensures { λ r. ⌜ Says (Under (64 / v) v a b x) r ⌝ }

@@ -10,8 +10,7 @@ use Rattle.nodes.proofs.Edges.{edge-depth}
 use Rattle.nodes.proofs.Tables.{says-yes}
 use Rattle.sums.specs.Words.{leafBit}
 use Rattle.cuts.specs.Cuts.{Cut}
-use Rattle.cuts.specs.Steps.{Outer}
-use Rattle.cuts.proofs.LeafWords.{outer-half, edge-two, border-across, mirrored-across, across-mirrored}
+use Rattle.cuts.proofs.LeafWords.{Outer, outer-half, edge-two, border-across, mirrored-across, across-mirrored}
 use borrow.Author.Needs.{needs}
 use Rattle.cuts.proofs.blocks.half_across.Statement.{statement}
 use Rattle.cuts.proofs.blocks.half_across.Tie as tie
