@@ -9,27 +9,6 @@ use borrow.Author.Needs.{needs}
 use Rattle.bits.proofs.get_eight.Statement.{statement}
 use Rattle.bits.proofs.get_eight.Tie as tie
 
-window-requires : tie.Need-window-requires
-window-requires c κs = search needs
-
-cast-result : tie.Need-cast-result
-cast-result c = search needs
-
-add-window : tie.Need-add-window
-add-window c = search needs
-
-window-requires-2 : tie.Need-window-requires-2
-window-requires-2 c κs = search needs
-
-cast-result-2 : tie.Need-cast-result-2
-cast-result-2 c = search needs
-
-mul-result : tie.Need-mul-result
-mul-result c = search needs
-
-add-result : tie.Need-add-result
-add-result c = search needs
-
 returns : tie.Need-returns
 unfolding little
 returns c =
@@ -45,11 +24,11 @@ pub get-eight-spec : {M : Type 1} → statement M
 get-eight-spec =
     tie.close
     (tie.spec
-    window-requires
-    cast-result
-    add-window
-    window-requires-2
-    cast-result-2
-    mul-result
-    add-result
+    (λ c κs. search needs)
+    (λ c. search needs)
+    (λ c. search needs)
+    (λ c κs. search needs)
+    (λ c. search needs)
+    (λ c. search needs)
+    (λ c. search needs)
     returns)

@@ -9,12 +9,6 @@ use borrow.Author.Needs.{needs}
 use Rattle.bits.proofs.get_field.Statement.{statement}
 use Rattle.bits.proofs.get_field.Tie as tie
 
-place-requires : tie.Need-place-requires
-place-requires c κs = search needs
-
-window-requires : tie.Need-window-requires
-window-requires c κs = search needs
-
 mul-result : tie.Need-mul-result
 mul-result c = omega arith
 
@@ -26,12 +20,6 @@ cast-result c = omega (arith, c .before .place .ensures .high (c .before .before
 
 shr-result : tie.Need-shr-result
 shr-result c = omega (arith, c .before .place .ensures .high (c .before .before .before .args .w) (omega arith) (omega arith))
-
-cast-result-2 : tie.Need-cast-result-2
-cast-result-2 c = search needs
-
-shl-result : tie.Need-shl-result
-shl-result c = search needs
 
 rem-result : tie.Need-rem-result
 rem-result c = subst⁻¹ (λ (x : ℕ). 0 < x) (one-shl (c .before .before .before .args .w) 32 (omega arith)) (pow-pos (c .before .before .before .args .w))
@@ -47,13 +35,13 @@ pub get-field-spec : {M : Type 1} → statement M
 get-field-spec =
     tie.close
     (tie.spec
-    place-requires
-    window-requires
+    (λ c κs. search needs)
+    (λ c κs. search needs)
     mul-result
     sub-result
     cast-result
     shr-result
-    cast-result-2
-    shl-result
+    (λ c. search needs)
+    (λ c. search needs)
     rem-result
     returns)

@@ -8,12 +8,6 @@ use borrow.Author.Needs.{needs}
 use Rattle.bits.proofs.put_byte.Statement.{statement}
 use Rattle.bits.proofs.put_byte.Tie as tie
 
-store-byte-requires : tie.Need-store-byte-requires
-store-byte-requires c κs = search needs
-
-same-length : tie.Need-same-length
-same-length c = search needs
-
 returns : tie.Need-returns
 unfolding putLittle
 returns c =
@@ -22,4 +16,4 @@ returns c =
     ∙ put-bytes (a .bytes .now) (λ j. c .before .before .before .before .slice-known .given j .fits) (a .i) 1 (a .v) (search needs)
 
 pub put-byte-spec : {M : Type 1} → statement M
-put-byte-spec = tie.close (tie.spec store-byte-requires same-length returns)
+put-byte-spec = tie.close (tie.spec (λ c κs. search needs) (λ c. search needs) returns)

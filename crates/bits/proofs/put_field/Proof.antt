@@ -16,18 +16,6 @@ here c =
     let h = c .place .ensures .high (c .before .before .args .w) (omega arith) (omega arith) in
     (c .place .ensures .low, omega arith, omega arith, omega (arith, c .place .ensures .low))
 
-place-requires : tie.Need-place-requires
-place-requires c κs = search needs
-
-mul-k : tie.Need-mul-k
-mul-k c = search needs
-
-sub-k : tie.Need-sub-k
-sub-k c = search needs
-
-window-requires : tie.Need-window-requires
-window-requires c κs = search needs
-
 cast-low : tie.Need-cast-low
 cast-low c = omega (arith, here (c .before .before))
 
@@ -42,18 +30,6 @@ cast-high c = omega (arith, here (c .before .before))
 
 shr-high : tie.Need-shr-high
 shr-high c = omega (arith, here (c .before .before))
-
-cast-high-2 : tie.Need-cast-high-2
-cast-high-2 c = search needs
-
-shr-high-2 : tie.Need-shr-high-2
-shr-high-2 c = search needs
-
-cast-store-window : tie.Need-cast-store-window
-cast-store-window c = search needs
-
-shl-store-window : tie.Need-shl-store-window
-shl-store-window c = search needs
 
 add-store-window : tie.Need-add-store-window
 add-store-window c =
@@ -78,12 +54,6 @@ add-store-window-2 c =
           (whole n k (a .w) (a .v) (c .before .window .ok) (h .2) (h .3) (search needs));
     }
 
-store-window-requires : tie.Need-store-window-requires
-store-window-requires c κs = search needs
-
-same-length : tie.Need-same-length
-same-length c = search needs
-
 returns : tie.Need-returns
 returns c =
     let a = c .before .before .before .before .before .before .before .before .args in
@@ -100,23 +70,23 @@ pub put-field-spec : {M : Type 1} → statement M
 put-field-spec =
     tie.close
     (tie.spec
-    place-requires
-    mul-k
-    sub-k
-    window-requires
+    (λ c κs. search needs)
+    (λ c. search needs)
+    (λ c. search needs)
+    (λ c κs. search needs)
     cast-low
     shl-low
     rem-low
     cast-high
     shr-high
-    cast-high-2
-    shr-high-2
-    cast-store-window
-    shl-store-window
+    (λ c. search needs)
+    (λ c. search needs)
+    (λ c. search needs)
+    (λ c. search needs)
     add-store-window
     cast-store-window-2
     shl-store-window-2
     add-store-window-2
-    store-window-requires
-    same-length
+    (λ c κs. search needs)
+    (λ c. search needs)
     returns)

@@ -5,16 +5,10 @@ use borrow.Author.Needs.{needs}
 use Rattle.bits.proofs.put_four.Statement.{statement}
 use Rattle.bits.proofs.put_four.Tie as tie
 
-store-window-requires : tie.Need-store-window-requires
-store-window-requires c κs = search needs
-
-same-length : tie.Need-same-length
-same-length c = search needs
-
 returns : tie.Need-returns
 returns c =
     let a = c .before .before .before .before .before .args in
     c .before .before .store-window .ensures ∙ put-bytes (a .bytes .now) (λ j. c .before .before .before .before .slice-known .given j .fits) (a .i) 4 (a .v) (search needs)
 
 pub put-four-spec : {M : Type 1} → statement M
-put-four-spec = tie.close (tie.spec store-window-requires same-length returns)
+put-four-spec = tie.close (tie.spec (λ c κs. search needs) (λ c. search needs) returns)

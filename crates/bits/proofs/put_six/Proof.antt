@@ -9,33 +9,6 @@ use borrow.Author.Needs.{needs}
 use Rattle.bits.proofs.put_six.Statement.{statement}
 use Rattle.bits.proofs.put_six.Tie as tie
 
-cast-put-four : tie.Need-cast-put-four
-cast-put-four c = search needs
-
-put-four-requires : tie.Need-put-four-requires
-put-four-requires c κs = search needs
-
-add-put-byte : tie.Need-add-put-byte
-add-put-byte c = search needs
-
-cast-put-byte : tie.Need-cast-put-byte
-cast-put-byte c = search needs
-
-put-byte-requires : tie.Need-put-byte-requires
-put-byte-requires c κs = search needs
-
-add-put-byte-2 : tie.Need-add-put-byte-2
-add-put-byte-2 c = search needs
-
-cast-put-byte-2 : tie.Need-cast-put-byte-2
-cast-put-byte-2 c = search needs
-
-put-byte-requires-2 : tie.Need-put-byte-requires-2
-put-byte-requires-2 c κs = search needs
-
-same-length : tie.Need-same-length
-same-length c = search needs
-
 returns : tie.Need-returns
 returns c =
     let a = c .before .before .before .before .before .before .before .before .before .before .before .before .before .args in
@@ -50,13 +23,13 @@ pub put-six-spec : {M : Type 1} → statement M
 put-six-spec =
     tie.close
     (tie.spec
-    cast-put-four
-    put-four-requires
-    add-put-byte
-    cast-put-byte
-    put-byte-requires
-    add-put-byte-2
-    cast-put-byte-2
-    put-byte-requires-2
-    same-length
+    (λ c. search needs)
+    (λ c κs. search needs)
+    (λ c. search needs)
+    (λ c. search needs)
+    (λ c κs. search needs)
+    (λ c. search needs)
+    (λ c. search needs)
+    (λ c κs. search needs)
+    (λ c. search needs)
     returns)

@@ -5,9 +5,6 @@ use borrow.Author.Needs.{needs}
 use Rattle.exports.proofs.panel_leaf_bits.Statement.{statement}
 use Rattle.exports.proofs.panel_leaf_bits.Tie as tie
 
-leaf-bits-requires : tie.Need-leaf-bits-requires
-leaf-bits-requires c κs = search needs
-
 mul-start : tie.Need-mul-start
 mul-start c = omega (arith, part-short _ _ _ (c .leaf-bits .ensures))
 
@@ -15,4 +12,4 @@ returns : tie.Need-returns
 returns c = part-told _ _ _ (c .leaf-bits .ensures)
 
 pub panel-leaf-bits-spec : {M : Type 1} → statement M
-panel-leaf-bits-spec = tie.close (tie.spec leaf-bits-requires mul-start returns)
+panel-leaf-bits-spec = tie.close (tie.spec (λ c κs. search needs) mul-start returns)

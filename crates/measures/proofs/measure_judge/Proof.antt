@@ -5,15 +5,9 @@ use Rattle.panel.specs.Calls.{Judged}
 use Rattle.measures.proofs.measure_judge.Statement.{statement}
 use Rattle.measures.proofs.measure_judge.Tie as tie
 
-judge-requires : tie.Need-judge-requires
-judge-requires c κs = search needs
-
-number-requires : tie.Need-number-requires
-number-requires c κs = search needs
-
 returns : tie.Need-returns
 returns c =
     subst (Judged (c .before .before .before .args .panel .now)) (sym (c .number .ensures)) (c .before .judge .ensures)
 
 pub measure-judge-spec : {M : Type 1} → statement M
-measure-judge-spec = tie.close (tie.spec judge-requires number-requires returns)
+measure-judge-spec = tie.close (tie.spec (λ c κs. search needs) (λ c κs. search needs) returns)

@@ -8,26 +8,8 @@ use borrow.Author.Needs.{needs}
 use Rattle.cuts.proofs.blocks.below_follow.Statement.{statement}
 use Rattle.cuts.proofs.blocks.below_follow.Tie as tie
 
-word-below-requires : tie.Need-word-below-requires
-word-below-requires c κs = search needs
-
 returns : tie.Need-returns
 returns c = says-yes (none-follow (c .before .word-below .ensures) (c .if1 .taken))
-
-parents-beside-requires : tie.Need-parents-beside-requires
-parents-beside-requires c κs = search needs
-
-inner-same-requires : tie.Need-inner-same-requires
-inner-same-requires c κs = search needs
-
-top-same-requires : tie.Need-top-same-requires
-top-same-requires c κs = search needs
-
-parent-cut-requires : tie.Need-parent-cut-requires
-parent-cut-requires c κs = search needs
-
-sides-follow-requires : tie.Need-sides-follow-requires
-sides-follow-requires c κs = search needs
 
 returns-2 : tie.Need-returns-2
 returns-2 c =
@@ -70,13 +52,13 @@ pub below-follow-spec : {M : Type 1} → statement M
 below-follow-spec =
     tie.close
     (tie.spec
-    word-below-requires
+    (λ c κs. search needs)
     returns
-    parents-beside-requires
-    inner-same-requires
-    top-same-requires
-    parent-cut-requires
-    sides-follow-requires
+    (λ c κs. search needs)
+    (λ c κs. search needs)
+    (λ c κs. search needs)
+    (λ c κs. search needs)
+    (λ c κs. search needs)
     returns-2
     returns-3
     returns-4

@@ -27,12 +27,6 @@ mul-place-follows c = omega (arith, start (c .before))
 place-follows-requires : tie.Need-place-follows-requires
 place-follows-requires c κs = (c .before .pre .0, omega (arith, whole-words (c .before .args .deep) (c .before .args .deep - 6) (omega arith)))
 
-sub-t6 : tie.Need-sub-t6
-sub-t6 c = search needs
-
-shl-t7 : tie.Need-shl-t7
-shl-t7 c = search needs
-
 add-t8 : tie.Need-add-t8
 add-t8 c = omega (arith, here c)
 
@@ -64,8 +58,8 @@ block-follows-spec =
     (tie.spec
     mul-place-follows
     place-follows-requires
-    sub-t6
-    shl-t7
+    (λ c. search needs)
+    (λ c. search needs)
     add-t8
     cast-t9
     below-follow-requires

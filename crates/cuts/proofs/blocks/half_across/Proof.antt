@@ -34,27 +34,6 @@ word-below-requires c κs =
     let e = c .before .edge-of .ensures in
     (a .pre .0, omega arith, omega (arith, depth-half (c .before .edge-of .result) (omega arith), ap depthOf e, edge-depth (a .args .n .0) (some c)))
 
-mul-mirrored : tie.Need-mul-mirrored
-mul-mirrored c = search needs
-
-cast-mirrored : tie.Need-cast-mirrored
-cast-mirrored c = search needs
-
-shr-mirrored : tie.Need-shr-mirrored
-shr-mirrored c = search needs
-
-mul-mirrored-2 : tie.Need-mul-mirrored-2
-mul-mirrored-2 c = search needs
-
-cast-mirrored-2 : tie.Need-cast-mirrored-2
-cast-mirrored-2 c = search needs
-
-shr-mirrored-2 : tie.Need-shr-mirrored-2
-shr-mirrored-2 c = search needs
-
-mirrored-requires : tie.Need-mirrored-requires
-mirrored-requires c κs = search needs
-
 returns-2 : tie.Need-returns-2
 returns-2 c =
     let b = c .before .before .before in
@@ -76,11 +55,11 @@ half-across-spec =
     edge-of-requires
     returns
     word-below-requires
-    mul-mirrored
-    cast-mirrored
-    shr-mirrored
-    mul-mirrored-2
-    cast-mirrored-2
-    shr-mirrored-2
-    mirrored-requires
+    (λ c. search needs)
+    (λ c. search needs)
+    (λ c. search needs)
+    (λ c. search needs)
+    (λ c. search needs)
+    (λ c. search needs)
+    (λ c κs. search needs)
     returns-2)

@@ -11,9 +11,6 @@ use borrow.Author.Needs.{needs}
 use Rattle.cuts.proofs.blocks.sides_follow.Statement.{statement}
 use Rattle.cuts.proofs.blocks.sides_follow.Tie as tie
 
-whole-across-requires : tie.Need-whole-across-requires
-whole-across-requires c κs = search needs
-
 mul-t7 : tie.Need-mul-t7
 mul-t7 c = let a = c .before .before .before .before in omega (arith, below-depth (a .args .q .0) 11 (omega arith) (omega arith))
 
@@ -53,7 +50,7 @@ pub sides-follow-spec : {M : Type 1} → statement M
 sides-follow-spec =
     tie.close
     (tie.spec
-    whole-across-requires
+    (λ c κs. search needs)
     mul-t7
     half-across-requires
     mul-t9

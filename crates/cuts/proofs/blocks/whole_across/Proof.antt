@@ -32,9 +32,6 @@ word-below-requires c κs =
     let a = c .before .before .before in
     (a .pre .0, omega arith, omega (arith, ap depthOf (c .before .edge-of .ensures), edge-depth (a .args .q .0) (some c)))
 
-mirrored-requires : tie.Need-mirrored-requires
-mirrored-requires c κs = search needs
-
 returns-2 : tie.Need-returns-2
 returns-2 c =
     let b = c .before .before in
@@ -48,4 +45,4 @@ returns-2 c =
 
 pub whole-across-spec : {M : Type 1} → statement M
 whole-across-spec =
-    tie.close (tie.spec edge-of-requires returns word-below-requires mirrored-requires returns-2)
+    tie.close (tie.spec edge-of-requires returns word-below-requires (λ c κs. search needs) returns-2)

@@ -15,18 +15,6 @@ use Rattle.cuts.proofs.blocks.word_below.Tie as tie
 here : (c : tie.Start) → Below (c .args .deep) (c .args .q .0) (length (c .args .bytes .now))
 here c = below (c .pre .0) (c .pre .1) (c .pre .2)
 
-sub-get-eight : tie.Need-sub-get-eight
-sub-get-eight c = search needs
-
-shl-get-eight : tie.Need-shl-get-eight
-shl-get-eight c = search needs
-
-cast-get-eight : tie.Need-cast-get-eight
-cast-get-eight c = search needs
-
-mul-get-eight : tie.Need-mul-get-eight
-mul-get-eight c = search needs
-
 add-get-eight : tie.Need-add-get-eight
 add-get-eight c = omega (arith, here (c .before .before))
 
@@ -44,10 +32,10 @@ pub word-below-spec : {M : Type 1} → statement M
 word-below-spec =
     tie.close
     (tie.spec
-    sub-get-eight
-    shl-get-eight
-    cast-get-eight
-    mul-get-eight
+    (λ c. search needs)
+    (λ c. search needs)
+    (λ c. search needs)
+    (λ c. search needs)
     add-get-eight
     get-eight-requires
     returns)

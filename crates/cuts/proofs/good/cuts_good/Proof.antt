@@ -14,9 +14,6 @@ is-cut-requires c κs =
     let a = c .before in
     (a .pre, record { low = omega arith; high = omega (arith, pow-next (a .args .deep), pow-pos (a .args .deep)) })
 
-shallow-follow-requires : tie.Need-shallow-follow-requires
-shallow-follow-requires c κs = search needs
-
 returns : tie.Need-returns
 returns c =
     let f = c .shallow-follow .ensures in
@@ -24,9 +21,6 @@ returns c =
       yes = λ t. follows-good _ _ (c .before .before .before .is-cut .ensures .yes (c .before .before .if1 .taken)) (λ p l h. f .yes t p h l);
       no = λ t G. f .no t (good-all G);
     }
-
-blocks-follow-requires : tie.Need-blocks-follow-requires
-blocks-follow-requires c κs = search needs
 
 returns-2 : tie.Need-returns-2
 returns-2 c =
@@ -42,4 +36,4 @@ returns-3 c = says-no (λ G. c .before .is-cut .ensures .no (c .if1 .left) (G .r
 pub cuts-good-spec : {M : Type 1} → statement M
 cuts-good-spec =
     tie.close
-    (tie.spec is-cut-requires shallow-follow-requires returns blocks-follow-requires returns-2 returns-3)
+    (tie.spec is-cut-requires (λ c κs. search needs) returns (λ c κs. search needs) returns-2 returns-3)

@@ -5,14 +5,8 @@ use Rattle.cuts.proofs.Naming.{says-cut}
 use Rattle.cuts.proofs.named.is_cut_above.Statement.{statement}
 use Rattle.cuts.proofs.named.is_cut_above.Tie as tie
 
-place-above-requires : tie.Need-place-above-requires
-place-above-requires c κs = search needs
-
-leaf-bit-requires : tie.Need-leaf-bit-requires
-leaf-bit-requires c κs = search needs
-
 returns : tie.Need-returns
 returns c = says-cut _ _ (omega arith) (c .before .place-above .ensures) _ (c .leaf-bit .ensures)
 
 pub is-cut-above-spec : {M : Type 1} → statement M
-is-cut-above-spec = tie.close (tie.spec place-above-requires leaf-bit-requires returns)
+is-cut-above-spec = tie.close (tie.spec (λ c κs. search needs) (λ c κs. search needs) returns)

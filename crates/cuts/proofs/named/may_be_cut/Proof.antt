@@ -10,16 +10,10 @@ use Rattle.cuts.proofs.named.may_be_cut.Tie as tie
 returns : tie.Need-returns
 returns c = says-yes (first-follows (c .if1 .taken))
 
-add-is-cut-above : tie.Need-add-is-cut-above
-add-is-cut-above c = search needs
-
 is-cut-above-requires : tie.Need-is-cut-above-requires
 is-cut-above-requires c κs =
     let a = c .before .before .before .before in
     (a .pre .0, omega arith, omega (arith, depth-half (a .args .n .0) (omega arith)))
-
-across-cut-requires : tie.Need-across-cut-requires
-across-cut-requires c κs = search needs
 
 returns-2 : tie.Need-returns-2
 returns-2 c = says-follows (c .before .before .is-cut-above .ensures .yes (c .before .if2 .taken)) (omega arith) (c .across-cut .ensures)
@@ -32,8 +26,8 @@ may-be-cut-spec =
     tie.close
     (tie.spec
     returns
-    add-is-cut-above
+    (λ c. search needs)
     is-cut-above-requires
-    across-cut-requires
+    (λ c κs. search needs)
     returns-2
     returns-3)

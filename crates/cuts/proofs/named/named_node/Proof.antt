@@ -15,9 +15,6 @@ here c = found (c .args .deep) (c .args .p) (omega arith) (omega arith) (omega a
 abbrev child : ℕ → ℕ → ℕ → ℕ
 child p x t = (x + p) / 2 ^ t
 
-shl-t4 : tie.Need-shl-t4
-shl-t4 c = search needs
-
 add-t5 : tie.Need-add-t5
 add-t5 c = omega (arith, here c .deep, pow-mono {i = c .args .deep} {j = 17} (omega arith))
 
@@ -31,4 +28,4 @@ returns : tie.Need-returns
 returns c = ap₂ (λ x t. child (c .args .p) x t / 2) (here c .deep) (c .pre .3)
 
 pub named-node-spec : {M : Type 1} → statement M
-named-node-spec = tie.close (tie.spec shl-t4 add-t5 shr-t7 cast-t8 returns)
+named-node-spec = tie.close (tie.spec (λ c. search needs) add-t5 shr-t7 cast-t8 returns)

@@ -11,21 +11,6 @@ use Rattle.cuts.proofs.named.place_above.Tie as tie
 here : (c : tie.After-struct-known) → let a = c .before .args in Placed (a .deep) (a .n .0) (a .levels)
 here c = let a = c .before .args in placed (a .deep) (a .n .0) (a .levels) (omega arith) (omega arith) (omega arith)
 
-cast-result : tie.Need-cast-result
-cast-result c = search needs
-
-mul-result : tie.Need-mul-result
-mul-result c = search needs
-
-add-result : tie.Need-add-result
-add-result c = search needs
-
-shl-result : tie.Need-shl-result
-shl-result c = search needs
-
-shl-result-2 : tie.Need-shl-result-2
-shl-result-2 c = search needs
-
 sub-result : tie.Need-sub-result
 sub-result c = let p = here c in omega (arith, p .first, p .shift, p .deep)
 
@@ -37,4 +22,4 @@ returns c =
 pub place-above-spec : {M : Type 1} → statement M
 place-above-spec =
     tie.close
-    (tie.spec cast-result mul-result add-result shl-result shl-result-2 sub-result returns)
+    (tie.spec (λ c. search needs) (λ c. search needs) (λ c. search needs) (λ c. search needs) (λ c. search needs) sub-result returns)

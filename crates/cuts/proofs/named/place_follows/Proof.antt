@@ -20,9 +20,6 @@ here c = let a = c .before .before .before .before .args in found (a .deep) (a .
 returns : tie.Need-returns
 returns c = says-yes (λ l. absurd (omega arith))
 
-leaf-bit-requires : tie.Need-leaf-bit-requires
-leaf-bit-requires c κs = search needs
-
 cast-t : tie.Need-cast-t
 cast-t c = omega (arith, pow-mono {i = c .before .before .before .before .args .deep} {j = 17} (omega arith))
 
@@ -52,7 +49,7 @@ place-follows-spec =
     tie.close
     (tie.spec
     returns
-    leaf-bit-requires
+    (λ c κs. search needs)
     cast-t
     named-node-requires
     cast-may-be-cut

@@ -16,28 +16,16 @@ here c = let p = c .before .before .pre in last (p .0) (p .1) (omega arith)
 get-byte-requires : tie.Need-get-byte-requires
 get-byte-requires c κs = room-bytes (c .before .before .pre .0)
 
-cast-result : tie.Need-cast-result
-cast-result c = search needs
-
 returns : tie.Need-returns
 returns c =
     let a = c .before .before .before .args in
     c .get-byte .ensures ∙ ap (λ d. field (a .bytes .now) (3 * 2 ^ d) (2 ^ d)) (sym (c .before .if1 .taken))
-
-sub-get-eight : tie.Need-sub-get-eight
-sub-get-eight c = search needs
-
-shl-get-eight : tie.Need-shl-get-eight
-shl-get-eight c = search needs
 
 sub-get-eight-2 : tie.Need-sub-get-eight-2
 sub-get-eight-2 c = omega (arith, here c)
 
 get-eight-requires : tie.Need-get-eight-requires
 get-eight-requires c κs = omega (arith, here c)
-
-shl-result : tie.Need-shl-result
-shl-result c = search needs
 
 sub-result : tie.Need-sub-result
 sub-result c = omega (arith, here (c .before))
@@ -55,13 +43,13 @@ leaves-of-spec =
     tie.close
     (tie.spec
     get-byte-requires
-    cast-result
+    (λ c. search needs)
     returns
-    sub-get-eight
-    shl-get-eight
+    (λ c. search needs)
+    (λ c. search needs)
     sub-get-eight-2
     get-eight-requires
-    shl-result
+    (λ c. search needs)
     sub-result
     shr-result
     returns-2)

@@ -4,18 +4,6 @@ use borrow.Author.Needs.{needs}
 use Rattle.cuts.proofs.shallow.root_follows.Statement.{statement}
 use Rattle.cuts.proofs.shallow.root_follows.Tie as tie
 
-parents-beside-requires : tie.Need-parents-beside-requires
-parents-beside-requires c κs = search needs
-
-inner-same-requires : tie.Need-inner-same-requires
-inner-same-requires c κs = search needs
-
-mirrored-requires : tie.Need-mirrored-requires
-mirrored-requires c κs = search needs
-
-mirrored-requires-2 : tie.Need-mirrored-requires-2
-mirrored-requires-2 c κs = search needs
-
 returns : tie.Need-returns
 returns c = record {
   yes = λ t. record {
@@ -40,10 +28,10 @@ pub root-follows-spec : {M : Type 1} → statement M
 root-follows-spec =
     tie.close
     (tie.spec
-    parents-beside-requires
-    inner-same-requires
-    mirrored-requires
-    mirrored-requires-2
+    (λ c κs. search needs)
+    (λ c κs. search needs)
+    (λ c κs. search needs)
+    (λ c κs. search needs)
     returns
     returns-2
     returns-3

@@ -15,15 +15,6 @@ use borrow.Author.Needs.{needs}
 use Rattle.cuts.proofs.shallow.shallow_follow.Statement.{statement}
 use Rattle.cuts.proofs.shallow.shallow_follow.Tie as tie
 
-leaves-of-requires : tie.Need-leaves-of-requires
-leaves-of-requires c κs = search needs
-
-sub-if1 : tie.Need-sub-if1
-sub-if1 c = search needs
-
-shl-if1 : tie.Need-shl-if1
-shl-if1 c = search needs
-
 sub-if1-2 : tie.Need-sub-if1-2
 sub-if1-2 c = omega (arith, alone (c .before .before .pre .1))
 
@@ -42,9 +33,6 @@ spread-requires c κs =
     let a = s .args in
     (s .pre .1, subst⁻¹ (λ x. x < 2 ^ 2 ^ a .deep) (c .before .leaves-of .ensures) (field-lt (a .bytes .now) (3 * 2 ^ a .deep) (2 ^ a .deep)))
 
-root-follows-requires : tie.Need-root-follows-requires
-root-follows-requires c κs = search needs
-
 returns-2 : tie.Need-returns-2
 returns-2 c =
     let s = c .before .before .before .before .before in
@@ -60,12 +48,12 @@ pub shallow-follow-spec : {M : Type 1} → statement M
 shallow-follow-spec =
     tie.close
     (tie.spec
-    leaves-of-requires
-    sub-if1
-    shl-if1
+    (λ c κs. search needs)
+    (λ c. search needs)
+    (λ c. search needs)
     sub-if1-2
     shl-if1-2
     returns
     spread-requires
-    root-follows-requires
+    (λ c κs. search needs)
     returns-2)

@@ -4,27 +4,6 @@ use borrow.Author.Needs.{needs}
 use Rattle.cuts.proofs.within.beside.Statement.{statement}
 use Rattle.cuts.proofs.within.beside.Tie as tie
 
-mul-under : tie.Need-mul-under
-mul-under c = search needs
-
-mul-under-2 : tie.Need-mul-under-2
-mul-under-2 c = search needs
-
-under-requires : tie.Need-under-requires
-under-requires c κs = search needs
-
-mul-under-3 : tie.Need-mul-under-3
-mul-under-3 c = search needs
-
-mul-under-4 : tie.Need-mul-under-4
-mul-under-4 c = search needs
-
-mul-under-5 : tie.Need-mul-under-5
-mul-under-5 c = search needs
-
-under-requires-2 : tie.Need-under-requires-2
-under-requires-2 c κs = search needs
-
 returns : tie.Need-returns
 returns c = record { yes = λ t. record { left = c .before .before .under .ensures .yes (c .before .if1 .taken); right = c .under2 .ensures .yes t }; no = λ t b. c .under2 .ensures .no t (b .right) }
 
@@ -35,12 +14,12 @@ pub beside-spec : {M : Type 1} → statement M
 beside-spec =
     tie.close
     (tie.spec
-    mul-under
-    mul-under-2
-    under-requires
-    mul-under-3
-    mul-under-4
-    mul-under-5
-    under-requires-2
+    (λ c. search needs)
+    (λ c. search needs)
+    (λ c κs. search needs)
+    (λ c. search needs)
+    (λ c. search needs)
+    (λ c. search needs)
+    (λ c κs. search needs)
     returns
     returns-2)

@@ -6,23 +6,11 @@ use borrow.Author.Needs.{needs}
 use Rattle.cuts.proofs.within.crossed.Statement.{statement}
 use Rattle.cuts.proofs.within.crossed.Tie as tie
 
-shr-if1 : tie.Need-shr-if1
-shr-if1 c = search needs
-
-shr-if1-2 : tie.Need-shr-if1-2
-shr-if1-2 c = search needs
-
 returns : tie.Need-returns
 returns c = says-no (λ r. omega (arith, r .there))
-
-shr-result : tie.Need-shr-result
-shr-result c = search needs
-
-shr-result-2 : tie.Need-shr-result-2
-shr-result-2 c = search needs
 
 returns-2 : tie.Need-returns-2
 returns-2 c = record { yes = λ t. record { there = omega arith; back = omega (arith, leb-true) }; no = λ t r. omega (arith, leb-false, r .back) }
 
 pub crossed-spec : {M : Type 1} → statement M
-crossed-spec = tie.close (tie.spec shr-if1 shr-if1-2 returns shr-result shr-result-2 returns-2)
+crossed-spec = tie.close (tie.spec (λ c. search needs) (λ c. search needs) returns (λ c. search needs) (λ c. search needs) returns-2)

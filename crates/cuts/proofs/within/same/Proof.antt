@@ -5,16 +5,10 @@ use borrow.Author.Needs.{needs}
 use Rattle.cuts.proofs.within.same.Statement.{statement}
 use Rattle.cuts.proofs.within.same.Tie as tie
 
-shr-result : tie.Need-shr-result
-shr-result c = search needs
-
-shr-result-2 : tie.Need-shr-result-2
-shr-result-2 c = search needs
-
 returns : tie.Need-returns
 returns c =
     let a = c .args in
     says-equal _ _ (same-is (c .pre .0) (a .x) (a .a) (a .b)) (is-same (c .pre .0) (a .x) (a .a) (a .b))
 
 pub same-spec : {M : Type 1} → statement M
-same-spec = tie.close (tie.spec shr-result shr-result-2 returns)
+same-spec = tie.close (tie.spec (λ c. search needs) (λ c. search needs) returns)

@@ -5,16 +5,10 @@ use borrow.Author.Needs.{needs}
 use Rattle.cuts.proofs.within.under.Statement.{statement}
 use Rattle.cuts.proofs.within.under.Tie as tie
 
-shr-y : tie.Need-shr-y
-shr-y c = search needs
-
-shr-result : tie.Need-shr-result
-shr-result c = search needs
-
 returns : tie.Need-returns
 returns c =
     let a = c .args in
     says-equal _ _ (under-is (c .pre .0) (a .x) (a .a) (a .b)) (is-under (c .pre .0) (a .x) (a .a) (a .b))
 
 pub under-spec : {M : Type 1} → statement M
-under-spec = tie.close (tie.spec shr-y shr-result returns)
+under-spec = tie.close (tie.spec (λ c. search needs) (λ c. search needs) returns)

@@ -15,9 +15,6 @@ use Rattle.nodes.proofs.longside.edge_of.Tie as tie
 abbrev zeros : ℕ → ℕ
 zeros k = trailingZeros 32 (bitAnd (bitXor k (k / 2)) 0x55555555)
 
-depth-requires : tie.Need-depth-requires
-depth-requires c κs = search needs
-
 -- what the number says of the neighbour, at the depth that the code has
 here : (c : tie.After-depth) → Across (zeros (c .before .args .n .0)) (c .depth .result) (c .before .args .n .0)
 here c =
@@ -80,7 +77,7 @@ pub edge-of-spec : {M : Type 1} → statement M
 edge-of-spec =
     tie.close
     (tie.spec
-    depth-requires
+    (λ c κs. search needs)
     add-if1
     shl-turned
     rem-low

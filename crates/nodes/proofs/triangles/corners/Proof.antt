@@ -6,12 +6,6 @@ use borrow.Author.Needs.{needs}
 use Rattle.nodes.proofs.triangles.corners.Statement.{statement}
 use Rattle.nodes.proofs.triangles.corners.Tie as tie
 
-known-requires : tie.Need-known-requires
-known-requires c κs = search needs
-
-number-requires : tie.Need-number-requires
-number-requires c κs = search needs
-
 returns : tie.Need-returns
 returns c = rw (c .number .ensures) (no-such-node (c .before .before .known .ensures .no (not-true _ (c .before .if1 .taken))) refl)
 
@@ -23,4 +17,4 @@ returns-2 c = known-node (c .before .before .known .ensures .yes (not-false _ (c
 
 pub corners-spec : {M : Type 1} → statement M
 corners-spec =
-    tie.close (tie.spec known-requires number-requires returns corners-of-requires returns-2)
+    tie.close (tie.spec (λ c κs. search needs) (λ c κs. search needs) returns corners-of-requires returns-2)

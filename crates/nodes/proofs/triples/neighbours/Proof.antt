@@ -7,9 +7,6 @@ use borrow.Author.Needs.{needs}
 use Rattle.nodes.proofs.triples.neighbours.Statement.{statement}
 use Rattle.nodes.proofs.triples.neighbours.Tie as tie
 
-known-requires : tie.Need-known-requires
-known-requires c κs = search needs
-
 returns : tie.Need-returns
 returns c = no-such-node (c .before .known .ensures .no (not-true _ (c .if1 .taken))) refl
 
@@ -20,4 +17,4 @@ returns-2 : tie.Need-returns-2
 returns-2 c = known-node (c .before .before .known .ensures .yes (not-false _ (c .before .if1 .left))) (c .triple-of .ensures)
 
 pub neighbours-spec : {M : Type 1} → statement M
-neighbours-spec = tie.close (tie.spec known-requires returns triple-of-requires returns-2)
+neighbours-spec = tie.close (tie.spec (λ c κs. search needs) returns triple-of-requires returns-2)

@@ -5,17 +5,8 @@ use borrow.Author.Needs.{needs}
 use Rattle.nodes.proofs.triples.right_child_of.Statement.{statement}
 use Rattle.nodes.proofs.triples.right_child_of.Tie as tie
 
-returns : tie.Need-returns
-returns c = search needs
-
-mul-result : tie.Need-mul-result
-mul-result c = search needs
-
-add-result : tie.Need-add-result
-add-result c = search needs
-
 returns-2 : tie.Need-returns-2
 returns-2 c = rw right-child (omega arith)
 
 pub right-child-of-spec : {M : Type 1} → statement M
-right-child-of-spec = tie.close (tie.spec returns mul-result add-result returns-2)
+right-child-of-spec = tie.close (tie.spec (λ c. search needs) (λ c. search needs) (λ c. search needs) returns-2)

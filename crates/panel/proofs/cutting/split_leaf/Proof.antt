@@ -4,17 +4,11 @@ use Rattle.panel.proofs.AtWork.{split-made, room-at, summed-at}
 use Rattle.panel.proofs.cutting.split_leaf.Statement.{statement}
 use Rattle.panel.proofs.cutting.split_leaf.Tie as tie
 
-cut-chain-requires : tie.Need-cut-chain-requires
-cut-chain-requires c κs = search needs
-
 make-sums-requires : tie.Need-make-sums-requires
 make-sums-requires c κs =
     let t = c .before .before .before in
     let a = t .before .before .before in
     room-at (a .pre .0) (a .pre .1) (t .cut-chain .ensures .work)
-
-same-length : tie.Need-same-length
-same-length c = search needs
 
 returns : tie.Need-returns
 returns c =
@@ -24,4 +18,4 @@ returns c =
     split-made (a .pre .0) (t .cut-chain .ensures) (summed-at (a .pre .0) (a .pre .1) (m .make-sums .ensures))
 
 pub split-leaf-spec : {M : Type 1} → statement M
-split-leaf-spec = tie.close (tie.spec cut-chain-requires make-sums-requires same-length returns)
+split-leaf-spec = tie.close (tie.spec (λ c κs. search needs) make-sums-requires (λ c. search needs) returns)

@@ -34,9 +34,6 @@ put-cut-requires-2 c κs =
     let e = b .before .edge-of .ensures in
     (room-at (a .pre .0) (a .pre .1) (work-put (a .pre .0) (work-start (a .pre .0)) (own p) (omega arith)), omega (arith, b .if1 .taken), omega (arith, ap depthOf e, edge-depth (a .args .q .0) (λ z. b .if1 .taken (e ∙ z)), a .pre .3), omega arith)
 
-same-length : tie.Need-same-length
-same-length c = search needs
-
 returns : tie.Need-returns
 returns c =
     let m = c .before .before in
@@ -45,9 +42,6 @@ returns c =
     let a = p .before .before .before in
     merging-both (a .pre .0) (own p)
     (subst (λ x. CutPut (deepOf (a .args .panel .now)) (p .put-cut .last .0) x 0 (m .put-cut2 .last .0)) (b .before .edge-of .ensures) (put-at (a .pre .0) (a .pre .1) (m .put-cut2 .ensures)))
-
-same-length-2 : tie.Need-same-length-2
-same-length-2 c = search needs
 
 returns-2 : tie.Need-returns-2
 returns-2 c =
@@ -62,7 +56,7 @@ take-back-spec =
     put-cut-requires
     edge-of-requires
     put-cut-requires-2
-    same-length
+    (λ c. search needs)
     returns
-    same-length-2
+    (λ c. search needs)
     returns-2)

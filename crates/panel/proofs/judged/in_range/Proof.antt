@@ -13,12 +13,6 @@ use Rattle.panel.proofs.judged.in_range.Tie as tie
 returns : tie.Need-returns
 returns c = says-no (λ x. omega (arith, x .low))
 
-cast-result : tie.Need-cast-result
-cast-result c = search needs
-
-shl-result : tie.Need-shl-result
-shl-result c = search needs
-
 returns-2 : tie.Need-returns-2
 returns-2 c =
     let a = c .before .args in
@@ -29,4 +23,4 @@ returns-2 c =
     }
 
 pub in-range-spec : {M : Type 1} → statement M
-in-range-spec = tie.close (tie.spec returns cast-result shl-result returns-2)
+in-range-spec = tie.close (tie.spec returns (λ c. search needs) (λ c. search needs) returns-2)

@@ -8,12 +8,6 @@ use Rattle.panel.proofs.Downward.{root-spot}
 use Rattle.panel.proofs.judged.leaf_at.Statement.{statement}
 use Rattle.panel.proofs.judged.leaf_at.Tie as tie
 
-count-requires : tie.Need-count-requires
-count-requires c κs = search needs
-
-add-leaf-below : tie.Need-add-leaf-below
-add-leaf-below c = search needs
-
 leaf-below-requires : tie.Need-leaf-below-requires
 leaf-below-requires c κs =
     let p = c .before .before .before .pre in
@@ -26,4 +20,4 @@ returns c =
     (omega (arith, number-root (a .t1 .now) (c .before .before .before .before .pre .0))) (c .leaf-below .ensures)
 
 pub leaf-at-spec : {M : Type 1} → statement M
-leaf-at-spec = tie.close (tie.spec count-requires add-leaf-below leaf-below-requires returns)
+leaf-at-spec = tie.close (tie.spec (λ c κs. search needs) (λ c. search needs) leaf-below-requires returns)

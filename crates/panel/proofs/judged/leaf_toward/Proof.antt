@@ -5,26 +5,8 @@ use borrow.Author.Needs.{needs}
 use Rattle.panel.proofs.judged.leaf_toward.Statement.{statement}
 use Rattle.panel.proofs.judged.leaf_toward.Tie as tie
 
-depth-requires : tie.Need-depth-requires
-depth-requires c κs = search needs
-
-cast-d : tie.Need-cast-d
-cast-d c = search needs
-
 sub-first : tie.Need-sub-first
 sub-first c = let p = c .before .before .pre in shallow _ (p .0) _ (p .2) (p .1) (c .depth .ensures)
-
-cast-first : tie.Need-cast-first
-cast-first c = search needs
-
-shl-first : tie.Need-shl-first
-shl-first c = search needs
-
-count-requires : tie.Need-count-requires
-count-requires c κs = search needs
-
-add-leaf-over : tie.Need-add-leaf-over
-add-leaf-over c = search needs
 
 leaf-over-requires : tie.Need-leaf-over-requires
 leaf-over-requires c κs =
@@ -39,4 +21,4 @@ returns c =
 
 pub leaf-toward-spec : {M : Type 1} → statement M
 leaf-toward-spec =
-    tie.close (tie.spec depth-requires cast-d sub-first cast-first shl-first count-requires add-leaf-over leaf-over-requires returns)
+    tie.close (tie.spec (λ c κs. search needs) (λ c. search needs) sub-first (λ c. search needs) (λ c. search needs) (λ c κs. search needs) (λ c. search needs) leaf-over-requires returns)

@@ -23,17 +23,11 @@ known c = says (c .before) .yes (not-false _ (c .if1 .left))
 leaf : (c : tie.Else2) → let a = c .before .before .before .before .before .before .args in LeafOf (a .panel .now) (a .k .0)
 leaf c = c .before .is-leaf .ensures .yes (not-false _ (c .if2 .left))
 
-in-range-requires : tie.Need-in-range-requires
-in-range-requires c κs = search needs
-
 returns : tie.Need-returns
 returns c = is-refused (omega arith) (no-such-node (unless 6 _ ∷ unless 7 _ ∷ []) (c .before .before .before .pre .0) (says (c .before) .no (not-true _ (c .if1 .taken)))) refl
 
 is-leaf-requires : tie.Need-is-leaf-requires
 is-leaf-requires c κs = let a = c .before .before .before .before in (a .pre .0, a .pre .1, known (c .before))
-
-same-length : tie.Need-same-length
-same-length c = search needs
 
 returns-2 : tie.Need-returns-2
 returns-2 c =
@@ -43,9 +37,6 @@ returns-2 c =
 
 depth-requires : tie.Need-depth-requires
 depth-requires c κs = omega (arith, leaf c .low)
-
-same-length-2 : tie.Need-same-length-2
-same-length-2 c = search needs
 
 returns-3 : tie.Need-returns-3
 returns-3 c =
@@ -60,9 +51,6 @@ together-requires c κs =
     let r = d .before .before .before .before in
     let a = r .before .before .before in
     (a .pre .0, a .pre .1, known r, omega (arith, d .depth .ensures))
-
-same-length-3 : tie.Need-same-length-3
-same-length-3 c = search needs
 
 returns-4 : tie.Need-returns-4
 returns-4 c =
@@ -80,9 +68,6 @@ merge-leaves-requires c κs =
     let a = d .before .before .before .before .before .before .before in
     (a .pre .0, a .pre .1, leaf (d .before), omega (arith, d .depth .ensures), t .together .ensures .yes (not-false _ (c .before .if4 .left)))
 
-same-length-4 : tie.Need-same-length-4
-same-length-4 c = search needs
-
 returns-5 : tie.Need-returns-5
 returns-5 c =
     let w = c .before .before in
@@ -99,17 +84,17 @@ pub merge-spec : {M : Type 1} → statement M
 merge-spec =
     tie.close
     (tie.spec
-    in-range-requires
+    (λ c κs. search needs)
     returns
     is-leaf-requires
-    same-length
+    (λ c. search needs)
     returns-2
     depth-requires
-    same-length-2
+    (λ c. search needs)
     returns-3
     together-requires
-    same-length-3
+    (λ c. search needs)
     returns-4
     merge-leaves-requires
-    same-length-4
+    (λ c. search needs)
     returns-5)

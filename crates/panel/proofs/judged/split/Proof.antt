@@ -23,17 +23,11 @@ known c = says (c .before) .yes (not-false _ (c .if1 .left))
 leaf : (c : tie.Else2) → let a = c .before .before .before .before .before .before .args in LeafOf (a .panel .now) (a .k .0)
 leaf c = c .before .is-leaf .ensures .yes (not-false _ (c .if2 .left))
 
-in-range-requires : tie.Need-in-range-requires
-in-range-requires c κs = search needs
-
 returns : tie.Need-returns
 returns c = is-refused (omega arith) (no-such-node (unless 5 _ ∷ []) (c .before .before .before .pre .0) (says (c .before) .no (not-true _ (c .if1 .taken)))) refl
 
 is-leaf-requires : tie.Need-is-leaf-requires
 is-leaf-requires c κs = let a = c .before .before .before .before in (a .pre .0, a .pre .1, known (c .before))
-
-same-length : tie.Need-same-length
-same-length c = search needs
 
 returns-2 : tie.Need-returns-2
 returns-2 c =
@@ -43,12 +37,6 @@ returns-2 c =
 
 depth-requires : tie.Need-depth-requires
 depth-requires c κs = omega (arith, leaf c .low)
-
-cast-if3 : tie.Need-cast-if3
-cast-if3 c = search needs
-
-same-length-2 : tie.Need-same-length-2
-same-length-2 c = search needs
 
 returns-3 : tie.Need-returns-3
 returns-3 c =
@@ -63,9 +51,6 @@ split-leaf-requires c κs =
     let a = d .before .before .before .before .before .before .before in
     (a .pre .0, a .pre .1, leaf (d .before), omega (arith, d .depth .ensures))
 
-same-length-3 : tie.Need-same-length-3
-same-length-3 c = search needs
-
 returns-4 : tie.Need-returns-4
 returns-4 c =
     let w = c .before .before in
@@ -78,15 +63,15 @@ pub split-spec : {M : Type 1} → statement M
 split-spec =
     tie.close
     (tie.spec
-    in-range-requires
+    (λ c κs. search needs)
     returns
     is-leaf-requires
-    same-length
+    (λ c. search needs)
     returns-2
     depth-requires
-    cast-if3
-    same-length-2
+    (λ c. search needs)
+    (λ c. search needs)
     returns-3
     split-leaf-requires
-    same-length-3
+    (λ c. search needs)
     returns-4)

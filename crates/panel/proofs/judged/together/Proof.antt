@@ -14,9 +14,6 @@ mul-t7 c = let a = c .before .before in omega (arith, range-small (a .pre .0 .fi
 add-t8 : tie.Need-add-t8
 add-t8 c = let a = c .before .before in omega (arith, range-small (a .pre .0 .fits) (a .pre .2))
 
-sub-t9 : tie.Need-sub-t9
-sub-t9 c = search needs
-
 is-leaf-requires : tie.Need-is-leaf-requires
 is-leaf-requires c κs = let a = c .before .before .before in (a .pre .0, a .pre .1, sibling-in (a .pre .2) (a .pre .3))
 
@@ -75,7 +72,7 @@ together-spec =
     (tie.spec
     mul-t7
     add-t8
-    sub-t9
+    (λ c. search needs)
     is-leaf-requires
     edge-of-requires
     returns

@@ -14,32 +14,11 @@ use Rattle.panel.proofs.judging.depth_of.Reads as reads
 use Rattle.panel.proofs.judging.depth_of.Lts as lts
 use Rattle.nodes.proofs.depth.Reads as depth-reads
 
-sub-if1 : tie.Need-sub-if1
-sub-if1 c = search needs
-
-shl-if1 : tie.Need-shl-if1
-shl-if1 c = search needs
-
 returns : tie.Need-returns
 returns c = record { none = λ _ r. omega (arith, length-least _ r); some = λ z. absurd (z refl) }
 
-sub-if2 : tie.Need-sub-if2
-sub-if2 c = search needs
-
-shl-if2 : tie.Need-shl-if2
-shl-if2 c = search needs
-
 returns-2 : tie.Need-returns-2
 returns-2 c = record { none = λ _ r. omega (arith, length-greatest _ r); some = λ z. absurd (z refl) }
-
-cast-t8 : tie.Need-cast-t8
-cast-t8 c = search needs
-
-depth-requires : tie.Need-depth-requires
-depth-requires c κs = search needs
-
-cast-d : tie.Need-cast-d
-cast-d c = search needs
 
 -- the depth of the length, and the power that the code makes of it
 module _ (c : tie.After-depth) where
@@ -56,9 +35,6 @@ returns-3 : tie.Need-returns-3
 returns-3 c =
     record { none = λ _ r. c .if3 .taken (length-power _ r ∙ sym (power (c .before))); some = λ z. absurd (z refl) }
 
-add-result : tie.Need-add-result
-add-result c = search needs
-
 returns-4 : tie.Need-returns-4
 returns-4 c =
     record {
@@ -70,16 +46,16 @@ pub depth-of-spec : {M : Type 1} → statement M
 depth-of-spec =
     tie.close
     (tie.spec
-    sub-if1
-    shl-if1
+    (λ c. search needs)
+    (λ c. search needs)
     returns
-    sub-if2
-    shl-if2
+    (λ c. search needs)
+    (λ c. search needs)
     returns-2
-    cast-t8
-    depth-requires
-    cast-d
+    (λ c. search needs)
+    (λ c κs. search needs)
+    (λ c. search needs)
     shl-if3
     returns-3
-    add-result
+    (λ c. search needs)
     returns-4)

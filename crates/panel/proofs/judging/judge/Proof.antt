@@ -22,9 +22,6 @@ module _ (c : tie.Else1) where
   room : Room (c .before .depth-of .result) (c .before .before .before .args .panel .now)
   room = subst (λ d. Room d (c .before .before .before .args .panel .now)) deep (fits-room _ _ long)
 
-depth-of-requires : tie.Need-depth-of-requires
-depth-of-requires c κs = search needs
-
 returns : tie.Need-returns
 returns c = wrong-length (c .before .depth-of .ensures .none (c .if1 .taken))
 
@@ -71,7 +68,7 @@ pub judge-spec : {M : Type 1} → statement M
 judge-spec =
     tie.close
     (tie.spec
-    depth-of-requires
+    (λ c κs. search needs)
     returns
     all-right-requires
     leaf-bit-requires

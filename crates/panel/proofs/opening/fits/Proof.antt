@@ -15,12 +15,6 @@ returns c = says-no (λ f. omega (arith, f .low))
 returns-2 : tie.Need-returns-2
 returns-2 c = says-no (λ f. omega (arith, f .high))
 
-sub-result : tie.Need-sub-result
-sub-result c = search needs
-
-shl-result : tie.Need-shl-result
-shl-result c = search needs
-
 returns-3 : tie.Need-returns-3
 returns-3 c =
     let a = c .before .before .args in
@@ -28,4 +22,4 @@ returns-3 c =
     says-equal (length (a .panel .now)) _ (λ t. record { low = omega arith; high = omega arith; long = t ∙ e }) (λ f. f .long ∙ sym e)
 
 pub fits-spec : {M : Type 1} → statement M
-fits-spec = tie.close (tie.spec returns returns-2 sub-result shl-result returns-3)
+fits-spec = tie.close (tie.spec returns returns-2 (λ c. search needs) (λ c. search needs) returns-3)

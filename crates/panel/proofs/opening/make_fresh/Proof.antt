@@ -12,12 +12,6 @@ use Rattle.panel.proofs.Freshness.{depth-fits, fresh, half, room}
 use Rattle.panel.proofs.opening.make_fresh.Statement.{statement}
 use Rattle.panel.proofs.opening.make_fresh.Tie as tie
 
-clear-requires : tie.Need-clear-requires
-clear-requires c κs = search needs
-
-cast-put-word : tie.Need-cast-put-word
-cast-put-word c = search needs
-
 -- ---- the bytes have room after each step
 
 room-1 : (c : tie.After-clear) → Room (c .before .before .before .args .deep) (c .clear .last .0)
@@ -44,12 +38,6 @@ put-word-requires c κs =
 put-leaf-bit-requires : tie.Need-put-leaf-bit-requires
 put-leaf-bit-requires c κs = (room-2 (c .before .before .before), pow-pos (c .before .before .before .before .before .before .before .before .before .before .args .deep), omega arith)
 
-sub-put-leaf-bit : tie.Need-sub-put-leaf-bit
-sub-put-leaf-bit c = search needs
-
-shl-put-leaf-bit : tie.Need-shl-put-leaf-bit
-shl-put-leaf-bit c = search needs
-
 put-leaf-bit-requires-2 : tie.Need-put-leaf-bit-requires-2
 put-leaf-bit-requires-2 c κs =
     let a = c .before .before .before .before .before .before .before .before .before .before .before .before .before .before in
@@ -58,9 +46,6 @@ put-leaf-bit-requires-2 c κs =
 
 make-sums-requires : tie.Need-make-sums-requires
 make-sums-requires c κs = room-4 (c .before .before .before)
-
-same-length : tie.Need-same-length
-same-length c = search needs
 
 returns : tie.Need-returns
 returns c =
@@ -81,13 +66,13 @@ pub make-fresh-spec : {M : Type 1} → statement M
 make-fresh-spec =
     tie.close
     (tie.spec
-    clear-requires
-    cast-put-word
+    (λ c κs. search needs)
+    (λ c. search needs)
     put-word-requires
     put-leaf-bit-requires
-    sub-put-leaf-bit
-    shl-put-leaf-bit
+    (λ c. search needs)
+    (λ c. search needs)
     put-leaf-bit-requires-2
     make-sums-requires
-    same-length
+    (λ c. search needs)
     returns)

@@ -7,22 +7,13 @@ use Rattle.nodes.proofs.Tables.{is-done, is-refused}
 use Rattle.panel.proofs.opening.open.Statement.{statement}
 use Rattle.panel.proofs.opening.open.Tie as tie
 
-fits-requires : tie.Need-fits-requires
-fits-requires c κs = search needs
-
 make-fresh-requires : tie.Need-make-fresh-requires
 make-fresh-requires c κs = c .before .before .fits2 .ensures .yes (c .before .if1 .taken)
-
-same-length : tie.Need-same-length
-same-length c = search needs
 
 returns : tie.Need-returns
 returns c =
     let f = c .before .before .before .before in
     is-done (inr (f .before .fits2 .ensures .yes (f .if1 .taken), refl)) (c .before .before .make-fresh .ensures)
-
-same-length-2 : tie.Need-same-length-2
-same-length-2 c = search needs
 
 returns-2 : tie.Need-returns-2
 returns-2 c = is-refused (omega arith) (inl (c .before .fits2 .ensures .no (c .if1 .left), refl)) refl
@@ -30,4 +21,4 @@ returns-2 c = is-refused (omega arith) (inl (c .before .fits2 .ensures .no (c .i
 pub open-spec : {M : Type 1} → statement M
 open-spec =
     tie.close
-    (tie.spec fits-requires make-fresh-requires same-length returns same-length-2 returns-2)
+    (tie.spec (λ c κs. search needs) make-fresh-requires (λ c. search needs) returns (λ c. search needs) returns-2)

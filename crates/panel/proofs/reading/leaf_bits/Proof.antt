@@ -23,20 +23,8 @@ good c = good-past [] (subst (Judged (c .before .before .before .before .args .p
 deep : (c : tie.After-depth-of) → c .depth-of .result ≡ deepOf (c .before .before .before .before .before .args .panel .now)
 deep c = good-deep (good (c .before)) (c .depth-of .ensures)
 
-judge-requires : tie.Need-judge-requires
-judge-requires c κs = search needs
-
-number-requires : tie.Need-number-requires
-number-requires c κs = search needs
-
-slice-aggregate-result : tie.Need-slice-aggregate-result
-slice-aggregate-result c = search needs
-
 returns : tie.Need-returns
 returns c = is-refused (c .before .if1 .taken) (judged (c .before .before)) refl
-
-depth-of-requires : tie.Need-depth-of-requires
-depth-of-requires c κs = search needs
 
 leaf-part-requires : tie.Need-leaf-part-requires
 leaf-part-requires c κs = good-room _ (good (c .before)) (deep c)
@@ -54,10 +42,10 @@ pub leaf-bits-spec : {M : Type 1} → statement M
 leaf-bits-spec =
     tie.close
     (tie.spec
-    judge-requires
-    number-requires
-    slice-aggregate-result
+    (λ c κs. search needs)
+    (λ c κs. search needs)
+    (λ c. search needs)
     returns
-    depth-of-requires
+    (λ c κs. search needs)
     leaf-part-requires
     returns-2)

@@ -28,20 +28,8 @@ says c = ranged (deep (c .before)) (c .in-range .ensures)
 known : (c : tie.Else1) → let a = c .before .before .before .before .before .before .before .args in InRange (a .panel .now) (a .k .0)
 known c = says (c .before) .yes (not-false _ (c .if1 .left))
 
-judge-requires : tie.Need-judge-requires
-judge-requires c κs = search needs
-
-enum-known-a : tie.Need-enum-known-a
-enum-known-a c = search needs
-
 returns : tie.Need-returns
 returns c = judged-no (unless 3 _ ∷ unless 4 _ ∷ []) (c .before .a .given .1) (c .before .before .before .judge .ensures) refl
-
-enum-told : tie.Need-enum-told
-enum-told c = search needs
-
-depth-of-requires : tie.Need-depth-of-requires
-depth-of-requires c κs = search needs
 
 in-range-requires : tie.Need-in-range-requires
 in-range-requires c κs = omega (arith, good (c .before) .fits .high, deep c)
@@ -69,11 +57,11 @@ pub number-of-spec : {M : Type 1} → statement M
 number-of-spec =
     tie.close
     (tie.spec
-    judge-requires
-    enum-known-a
+    (λ c κs. search needs)
+    (λ c. search needs)
     returns
-    enum-told
-    depth-of-requires
+    (λ c. search needs)
+    (λ c κs. search needs)
     in-range-requires
     returns-2
     leaf-toward-requires

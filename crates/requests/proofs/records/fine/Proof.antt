@@ -8,26 +8,14 @@ use Rattle.requests.proofs.records.fine.Tie as tie
 returns : tie.Need-returns
 returns c = says-no (λ f. c .if1 .taken (f .whole))
 
-shared-slice-read-if2 : tie.Need-shared-slice-read-if2
-shared-slice-read-if2 c = search needs
-
 returns-2 : tie.Need-returns-2
 returns-2 c = says-no (λ f. omega (arith, f .kinds))
-
-shared-slice-read-if3 : tie.Need-shared-slice-read-if3
-shared-slice-read-if3 c = search needs
 
 returns-3 : tie.Need-returns-3
 returns-3 c = says-no (λ f. c .if3 .taken (f .spare-1))
 
-shared-slice-read-if4 : tie.Need-shared-slice-read-if4
-shared-slice-read-if4 c = search needs
-
 returns-4 : tie.Need-returns-4
 returns-4 c = says-no (λ f. c .if4 .taken (f .spare-2))
-
-shared-slice-read-if5 : tie.Need-shared-slice-read-if5
-shared-slice-read-if5 c = search needs
 
 returns-5 : tie.Need-returns-5
 returns-5 c = says-no (λ f. c .if5 .taken (f .spare-3))
@@ -40,12 +28,12 @@ fine-spec =
     tie.close
     (tie.spec
     returns
-    shared-slice-read-if2
+    (λ c. search needs)
     returns-2
-    shared-slice-read-if3
+    (λ c. search needs)
     returns-3
-    shared-slice-read-if4
+    (λ c. search needs)
     returns-4
-    shared-slice-read-if5
+    (λ c. search needs)
     returns-5
     returns-6)

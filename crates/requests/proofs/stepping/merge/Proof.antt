@@ -21,9 +21,6 @@ slice-aggregate-merge c = sym (length-take-le _ _ (lent-inside (c .before .befor
 merge-requires : tie.Need-merge-requires
 merge-requires c κs = lent-good (c .before .before .before .before .pre) (c .before .before .if1 .left) _ (c .before .size .ensures)
 
-same-length : tie.Need-same-length
-same-length c = search needs
-
 returns-2 : tie.Need-returns-2
 returns-2 c = merge-lent _ _ _ _ _ _ (c .before .before .before .before .size .ensures) (c .before .before .merge .ensures)
 
@@ -36,5 +33,5 @@ merge-spec =
     slice-relend-prefix-merge
     slice-aggregate-merge
     merge-requires
-    same-length
+    (λ c. search needs)
     returns-2)

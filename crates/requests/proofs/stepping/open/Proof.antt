@@ -6,49 +6,19 @@ use borrow.Author.Needs.{needs}
 use Rattle.requests.proofs.stepping.open.Statement.{statement}
 use Rattle.requests.proofs.stepping.open.Tie as tie
 
-kept-requires : tie.Need-kept-requires
-kept-requires c κs = search needs
-
 returns : tie.Need-returns
 returns c = called-kept (c .kept .ensures) (too-deep _ _ _ (c .before .if1 .taken))
-
-size-requires : tie.Need-size-requires
-size-requires c κs = search needs
-
-kept-requires-2 : tie.Need-kept-requires-2
-kept-requires-2 c κs = search needs
 
 returns-2 : tie.Need-returns-2
 returns-2 c = called-kept (c .kept2 .ensures) (too-short _ _ _ (omega (arith, c .before .before .size .ensures)))
 
-slice-relend-prefix-open : tie.Need-slice-relend-prefix-open
-slice-relend-prefix-open c = search needs
-
 slice-aggregate-open : tie.Need-slice-aggregate-open
 slice-aggregate-open c = omega (arith, length-take (c .before .before .size .result) (c .before .before .before .before .before .args .buffer .now))
-
-open-requires : tie.Need-open-requires
-open-requires c κs = search needs
-
-enum-told : tie.Need-enum-told
-enum-told c = search needs
-
-enum-known-answer : tie.Need-enum-known-answer
-enum-known-answer c = search needs
-
-kept-requires-3 : tie.Need-kept-requires-3
-kept-requires-3 c κs = search needs
-
-same-length : tie.Need-same-length
-same-length c = search needs
 
 returns-3 : tie.Need-returns-3
 returns-3 c =
     let o = c .before .before .before .before in
     open-done _ _ _ _ _ (o .before .before .before .size .ensures) (o .«open» .ensures) (c .enum-told .given .1)
-
-same-length-2 : tie.Need-same-length-2
-same-length-2 c = search needs
 
 returns-4 : tie.Need-returns-4
 returns-4 c =
@@ -60,18 +30,18 @@ pub open-spec : {M : Type 1} → statement M
 open-spec =
     tie.close
     (tie.spec
-    kept-requires
+    (λ c κs. search needs)
     returns
-    size-requires
-    kept-requires-2
+    (λ c κs. search needs)
+    (λ c κs. search needs)
     returns-2
-    slice-relend-prefix-open
+    (λ c. search needs)
     slice-aggregate-open
-    open-requires
-    enum-told
-    enum-known-answer
-    kept-requires-3
-    same-length
+    (λ c κs. search needs)
+    (λ c. search needs)
+    (λ c. search needs)
+    (λ c κs. search needs)
+    (λ c. search needs)
     returns-3
-    same-length-2
+    (λ c. search needs)
     returns-4)

@@ -8,17 +8,8 @@ use borrow.Author.Needs.{needs}
 use Rattle.requests.proofs.stepping.size.Statement.{statement}
 use Rattle.requests.proofs.stepping.size.Tie as tie
 
-returns : tie.Need-returns
-returns c = search needs
-
-sub-result : tie.Need-sub-result
-sub-result c = search needs
-
-shl-result : tie.Need-shl-result
-shl-result c = search needs
-
 returns-2 : tie.Need-returns-2
 returns-2 c = one-shl (c .before .args .deep - 1) 64 (omega arith) ∙ size-is (c .before .args .deep) (c .if1 .left)
 
 pub size-spec : {M : Type 1} → statement M
-size-spec = tie.close (tie.spec returns sub-result shl-result returns-2)
+size-spec = tie.close (tie.spec (λ c. search needs) (λ c. search needs) (λ c. search needs) returns-2)

@@ -21,9 +21,6 @@ slice-aggregate-split c = sym (length-take-le _ _ (lent-inside (c .before .befor
 split-requires : tie.Need-split-requires
 split-requires c κs = lent-good (c .before .before .before .before .pre) (c .before .before .if1 .left) _ (c .before .size .ensures)
 
-same-length : tie.Need-same-length
-same-length c = search needs
-
 returns-2 : tie.Need-returns-2
 returns-2 c = split-lent _ _ _ _ _ _ (c .before .before .before .before .size .ensures) (c .before .before .split .ensures)
 
@@ -36,5 +33,5 @@ split-spec =
     slice-relend-prefix-split
     slice-aggregate-split
     split-requires
-    same-length
+    (λ c. search needs)
     returns-2)

@@ -12,20 +12,11 @@ use Rattle.requests.proofs.stepping.step.Tie as tie
 is-fine : (c : tie.Then1) → Fine (c .before .before .before .before .args .request .now)
 is-fine c = c .before .fine .ensures .yes (c .if1 .taken)
 
-fine-requires : tie.Need-fine-requires
-fine-requires c κs = search needs
-
 number-of-requires : tie.Need-number-of-requires
 number-of-requires c κs = is-fine c .whole
 
 shared-slice-read-kind : tie.Need-shared-slice-read-kind
 shared-slice-read-kind c = omega (arith, is-fine (c .before .before) .whole)
-
-open-requires : tie.Need-open-requires
-open-requires c κs = search needs
-
-same-length : tie.Need-same-length
-same-length c = search needs
 
 returns : tie.Need-returns
 returns c =
@@ -34,24 +25,12 @@ returns c =
     let n = k .before .before in
     step-call (is-fine (n .before)) (n .number-of .ensures) (sym (k .if2 .taken)) (o .«open» .ensures)
 
-split-requires : tie.Need-split-requires
-split-requires c κs = search needs
-
-same-length-2 : tie.Need-same-length-2
-same-length-2 c = search needs
-
 returns-2 : tie.Need-returns-2
 returns-2 c =
     let s = c .before .before in
     let k = s .before .before in
     let n = k .before .before .before in
     step-call (is-fine (n .before)) (n .number-of .ensures) (sym (k .if3 .taken)) (s .split .ensures)
-
-merge-requires : tie.Need-merge-requires
-merge-requires c κs = search needs
-
-same-length-3 : tie.Need-same-length-3
-same-length-3 c = search needs
 
 returns-3 : tie.Need-returns-3
 returns-3 c =
@@ -61,9 +40,6 @@ returns-3 c =
     let f = is-fine (n .before) in
     step-call f (n .number-of .ensures) (omega (arith, f .kinds, k .if3 .left, k .before .if2 .left)) (m .merge .ensures)
 
-kept-requires : tie.Need-kept-requires
-kept-requires c κs = search needs
-
 returns-4 : tie.Need-returns-4
 returns-4 c = step-kept (c .kept .ensures) (bad (c .before .before .fine .ensures .no (c .before .if1 .left)))
 
@@ -71,17 +47,17 @@ pub step-spec : {M : Type 1} → statement M
 step-spec =
     tie.close
     (tie.spec
-    fine-requires
+    (λ c κs. search needs)
     number-of-requires
     shared-slice-read-kind
-    open-requires
-    same-length
+    (λ c κs. search needs)
+    (λ c. search needs)
     returns
-    split-requires
-    same-length-2
+    (λ c κs. search needs)
+    (λ c. search needs)
     returns-2
-    merge-requires
-    same-length-3
+    (λ c κs. search needs)
+    (λ c. search needs)
     returns-3
-    kept-requires
+    (λ c κs. search needs)
     returns-4)

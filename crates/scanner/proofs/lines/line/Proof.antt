@@ -15,40 +15,16 @@ first-fits c = few-digits {k = 20} (c .decimal .ensures .1 .0) (omega arith) (om
 second-fits : (c : tie.After-decimal2) → c .decimal2 .result ≤ 20
 second-fits c = few-digits {k = 20} (c .decimal2 .ensures .1 .0) (omega arith) (omega (arith, c .before .before .before .before .fits .b))
 
-decimal-requires : tie.Need-decimal-requires
-decimal-requires c κs = search needs
-
-decimal-requires-2 : tie.Need-decimal-requires-2
-decimal-requires-2 c κs = search needs
-
-array-share-prefix-first : tie.Need-array-share-prefix-first
-array-share-prefix-first c = search needs
-
-slice-aggregate-put : tie.Need-slice-aggregate-put
-slice-aggregate-put c = search needs
-
 put-requires : tie.Need-put-requires
 put-requires c κs = omega (arith, first-fits (c .before .before .before .before))
 
-slice-aggregate-put-2 : tie.Need-slice-aggregate-put-2
-slice-aggregate-put-2 c = search needs
-
 put-requires-2 : tie.Need-put-requires-2
 put-requires-2 c κs = omega (arith, first-fits (c .before .before .before .before .before .before .before))
-
-array-share-prefix-second : tie.Need-array-share-prefix-second
-array-share-prefix-second c = search needs
-
-slice-aggregate-put-3 : tie.Need-slice-aggregate-put-3
-slice-aggregate-put-3 c = search needs
 
 put-requires-3 : tie.Need-put-requires-3
 put-requires-3 c κs =
     let d = c .before .before .before .before .before .before .before .before in
     omega (arith, first-fits (d .before .before), second-fits d)
-
-slice-aggregate-put-4 : tie.Need-slice-aggregate-put-4
-slice-aggregate-put-4 c = search needs
 
 put-requires-4 : tie.Need-put-requires-4
 put-requires-4 c κs =
@@ -77,16 +53,16 @@ pub line-spec : {M : Type 1} → statement M
 line-spec =
     tie.close
     (tie.spec
-    decimal-requires
-    decimal-requires-2
-    array-share-prefix-first
-    slice-aggregate-put
+    (λ c κs. search needs)
+    (λ c κs. search needs)
+    (λ c. search needs)
+    (λ c. search needs)
     put-requires
-    slice-aggregate-put-2
+    (λ c. search needs)
     put-requires-2
-    array-share-prefix-second
-    slice-aggregate-put-3
+    (λ c. search needs)
+    (λ c. search needs)
     put-requires-3
-    slice-aggregate-put-4
+    (λ c. search needs)
     put-requires-4
     returns)

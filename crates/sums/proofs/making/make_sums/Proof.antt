@@ -16,29 +16,14 @@ use Rattle.sums.proofs.making.make_sums.Tie as tie
 both : (D e : ℕ) → e ≤ D → {xs ys zs : List ℕ} → Made D (2 ^ e) (2 ^ D) xs ys → Made D 1 (2 ^ e) ys zs → Summed D xs zs
 both D e h s t = made-all (made-join (pow-pos e) (pow-pos e) (pow-mono {i = e} {j = D} h) (le-refl (2 ^ D)) s t)
 
-make-lowest-three-requires : tie.Need-make-lowest-three-requires
-make-lowest-three-requires c κs = search needs
-
-sub-make-high-rows : tie.Need-sub-make-high-rows
-sub-make-high-rows c = search needs
-
 make-high-rows-requires : tie.Need-make-high-rows-requires
 make-high-rows-requires c κs = (room-same (c .before .before .before .make-lowest-three .ensures .long) (c .before .before .before .before .before .before .before .pre), omega arith)
-
-make-lowest-six-requires : tie.Need-make-lowest-six-requires
-make-lowest-six-requires c κs = search needs
 
 make-high-rows-requires-2 : tie.Need-make-high-rows-requires-2
 make-high-rows-requires-2 c κs = (room-same (c .before .before .before .make-lowest-six .ensures .long) (c .before .before .before .before .before .before .before .pre), omega arith)
 
-same-length : tie.Need-same-length
-same-length c = search needs
-
 returns : tie.Need-returns
 returns c = let D = c .before .before .before .before .before .before .before .before .before .before .args .deep in both D (D - 3) (omega arith) (c .before .before .before .before .before .before .make-lowest-three .ensures) (c .before .before .make-high-rows .ensures)
-
-same-length-2 : tie.Need-same-length-2
-same-length-2 c = search needs
 
 returns-2 : tie.Need-returns-2
 returns-2 c = let D = c .before .before .before .before .before .before .before .before .before .before .args .deep in both D (D - 6) (omega arith) (c .before .before .before .before .before .before .make-lowest-six .ensures) (c .before .before .make-high-rows2 .ensures)
@@ -47,12 +32,12 @@ pub make-sums-spec : {M : Type 1} → statement M
 make-sums-spec =
     tie.close
     (tie.spec
-    make-lowest-three-requires
-    sub-make-high-rows
+    (λ c κs. search needs)
+    (λ c. search needs)
     make-high-rows-requires
-    make-lowest-six-requires
+    (λ c κs. search needs)
     make-high-rows-requires-2
-    same-length
+    (λ c. search needs)
     returns
-    same-length-2
+    (λ c. search needs)
     returns-2)

@@ -62,24 +62,6 @@ last = 0 ∷ 18448 ∷ 18448 ∷ 36896 ∷ 18496 ∷ 36944 ∷ 36944 ∷ 55392 �
 right : (x : ℕ) → x < 256 → Sevens x (getD first (x % 16) 0 + getD last (x / 16) 0)
 right x h = sevens-are x _ (every-at (λ x. sevens x (getD first (x % 16) 0 + getD last (x / 16) 0)) 256 tt x h)
 
-cast-result : tie.Need-cast-result
-cast-result c = search needs
-
-mul-result : tie.Need-mul-result
-mul-result c = search needs
-
-array-read-result : tie.Need-array-read-result
-array-read-result c = search needs
-
-cast-result-2 : tie.Need-cast-result-2
-cast-result-2 c = search needs
-
-mul-result-2 : tie.Need-mul-result-2
-mul-result-2 c = search needs
-
-array-read-result-2 : tie.Need-array-read-result-2
-array-read-result-2 c = search needs
-
 add-result : tie.Need-add-result
 add-result c = omega (arith, right (c .args .x) (search needs) .small)
 
@@ -90,11 +72,11 @@ pub seven-spec : {M : Type 1} → statement M
 seven-spec =
     tie.close
     (tie.spec
-    cast-result
-    mul-result
-    array-read-result
-    cast-result-2
-    mul-result-2
-    array-read-result-2
+    (λ c. search needs)
+    (λ c. search needs)
+    (λ c. search needs)
+    (λ c. search needs)
+    (λ c. search needs)
+    (λ c. search needs)
     add-result
     returns)

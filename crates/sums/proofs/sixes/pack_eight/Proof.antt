@@ -8,9 +8,6 @@ use Rattle.sums.proofs.sixes.pack_eight.Tie as tie
 join-requires : tie.Need-join-requires
 join-requires c κs = (halves-8, omega arith)
 
-mul-pack-four : tie.Need-mul-pack-four
-mul-pack-four c = search needs
-
 pack-four-requires : tie.Need-pack-four-requires
 pack-four-requires c κs = (omega arith, pack-narrow (c .before .pre .1) (c .join .ensures))
 
@@ -18,4 +15,4 @@ returns : tie.Need-returns
 returns c = pack-step (c .before .before .pre .1) (c .before .join .ensures) (c .pack-four .ensures)
 
 pub pack-eight-spec : {M : Type 1} → statement M
-pack-eight-spec = tie.close (tie.spec join-requires mul-pack-four pack-four-requires returns)
+pack-eight-spec = tie.close (tie.spec join-requires (λ c. search needs) pack-four-requires returns)

@@ -8,9 +8,6 @@ use Rattle.sums.proofs.sixes.pack_four.Tie as tie
 join-requires : tie.Need-join-requires
 join-requires c κs = (halves-16, omega arith)
 
-mul-pack-two : tie.Need-mul-pack-two
-mul-pack-two c = search needs
-
 pack-two-requires : tie.Need-pack-two-requires
 pack-two-requires c κs = (omega arith, pack-narrow (c .before .pre .1) (c .join .ensures))
 
@@ -18,4 +15,4 @@ returns : tie.Need-returns
 returns c = pack-step (c .before .before .pre .1) (c .before .join .ensures) (c .pack-two .ensures)
 
 pub pack-four-spec : {M : Type 1} → statement M
-pack-four-spec = tie.close (tie.spec join-requires mul-pack-two pack-two-requires returns)
+pack-four-spec = tie.close (tie.spec join-requires (λ c. search needs) pack-two-requires returns)

@@ -8,9 +8,6 @@ use Rattle.sums.proofs.sixes.pack_sixteen.Tie as tie
 join-requires : tie.Need-join-requires
 join-requires c κs = (halves-4, omega arith)
 
-mul-pack-eight : tie.Need-mul-pack-eight
-mul-pack-eight c = search needs
-
 pack-eight-requires : tie.Need-pack-eight-requires
 pack-eight-requires c κs = (omega arith, pack-narrow (c .before .pre .1) (c .join .ensures))
 
@@ -18,4 +15,4 @@ returns : tie.Need-returns
 returns c = pack-step (c .before .before .pre .1) (c .before .join .ensures) (c .pack-eight .ensures)
 
 pub pack-sixteen-spec : {M : Type 1} → statement M
-pack-sixteen-spec = tie.close (tie.spec join-requires mul-pack-eight pack-eight-requires returns)
+pack-sixteen-spec = tie.close (tie.spec join-requires (λ c. search needs) pack-eight-requires returns)

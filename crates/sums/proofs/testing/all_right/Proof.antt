@@ -8,27 +8,15 @@ use Rattle.sums.proofs.Rooms.{room-bytes}
 use Rattle.sums.proofs.testing.all_right.Statement.{statement}
 use Rattle.sums.proofs.testing.all_right.Tie as tie
 
-add-get-field : tie.Need-add-get-field
-add-get-field c = search needs
-
 get-field-requires : tie.Need-get-field-requires
 get-field-requires c κs =
     let s = c .before in
     (room-bytes (s .pre), omega (arith, head-inside (s .args .deep) (s .args .bytes .now) (s .pre)), omega arith, omega arith)
 
-cast-head : tie.Need-cast-head
-cast-head c = search needs
-
-mul-if1 : tie.Need-mul-if1
-mul-if1 c = search needs
-
 returns : tie.Need-returns
 returns c =
     let a = c .before .before .before .args in
     says-no (λ s. c .if1 .taken (c .before .get-field .ensures ∙ right-head (a .deep) (a .bytes .now) (s .bit-0) (s .bit-1) (s .depth)))
-
-sums-right-requires : tie.Need-sums-right-requires
-sums-right-requires c κs = search needs
 
 returns-2 : tie.Need-returns-2
 returns-2 c =
@@ -40,4 +28,4 @@ returns-2 c =
     }
 
 pub all-right-spec : {M : Type 1} → statement M
-all-right-spec = tie.close (tie.spec add-get-field get-field-requires cast-head mul-if1 returns sums-right-requires returns-2)
+all-right-spec = tie.close (tie.spec (λ c. search needs) get-field-requires (λ c. search needs) (λ c. search needs) returns (λ c κs. search needs) returns-2)

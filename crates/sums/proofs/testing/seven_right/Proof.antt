@@ -16,50 +16,8 @@ small c =
     let lt = field-lt (a .bytes .now) in
     (omega (arith, lt (8 * (2 * a .m + a .i)) 8, c .before .before .get-byte2 .ensures), omega (arith, lt (10 * a .m + 6 * a .i) 6, c .before .get-field .ensures), omega (arith, lt (6 * a .m + 4 * a .i) 4, c .get-field2 .ensures))
 
-mul-get-byte : tie.Need-mul-get-byte
-mul-get-byte c = search needs
-
-add-get-byte : tie.Need-add-get-byte
-add-get-byte c = search needs
-
-get-byte-requires : tie.Need-get-byte-requires
-get-byte-requires c κs = search needs
-
 seven-requires : tie.Need-seven-requires
 seven-requires c κs = let a = c .before .before .args in omega (arith, field-lt (a .bytes .now) (8 * (3 * a .m + a .i)) 8)
-
-mul-get-byte-2 : tie.Need-mul-get-byte-2
-mul-get-byte-2 c = search needs
-
-add-get-byte-2 : tie.Need-add-get-byte-2
-add-get-byte-2 c = search needs
-
-get-byte-requires-2 : tie.Need-get-byte-requires-2
-get-byte-requires-2 c κs = search needs
-
-mul-get-field : tie.Need-mul-get-field
-mul-get-field c = search needs
-
-mul-get-field-2 : tie.Need-mul-get-field-2
-mul-get-field-2 c = search needs
-
-add-get-field : tie.Need-add-get-field
-add-get-field c = search needs
-
-get-field-requires : tie.Need-get-field-requires
-get-field-requires c κs = search needs
-
-mul-get-field-3 : tie.Need-mul-get-field-3
-mul-get-field-3 c = search needs
-
-mul-get-field-4 : tie.Need-mul-get-field-4
-mul-get-field-4 c = search needs
-
-add-get-field-2 : tie.Need-add-get-field-2
-add-get-field-2 c = search needs
-
-get-field-requires-2 : tie.Need-get-field-requires-2
-get-field-requires-2 c κs = search needs
 
 mul-result : tie.Need-mul-result
 mul-result c = omega (arith, small c)
@@ -88,21 +46,21 @@ pub seven-right-spec : {M : Type 1} → statement M
 seven-right-spec =
     tie.close
     (tie.spec
-    mul-get-byte
-    add-get-byte
-    get-byte-requires
+    (λ c. search needs)
+    (λ c. search needs)
+    (λ c κs. search needs)
     seven-requires
-    mul-get-byte-2
-    add-get-byte-2
-    get-byte-requires-2
-    mul-get-field
-    mul-get-field-2
-    add-get-field
-    get-field-requires
-    mul-get-field-3
-    mul-get-field-4
-    add-get-field-2
-    get-field-requires-2
+    (λ c. search needs)
+    (λ c. search needs)
+    (λ c κs. search needs)
+    (λ c. search needs)
+    (λ c. search needs)
+    (λ c. search needs)
+    (λ c κs. search needs)
+    (λ c. search needs)
+    (λ c. search needs)
+    (λ c. search needs)
+    (λ c κs. search needs)
     mul-result
     add-result
     mul-result-2

@@ -31,106 +31,25 @@ right c =
 first : (n w : ℕ) {m : ℕ} → n ≡ m → n % 2 ^ w ≡ m % 2 ^ w
 first n w e = ap (λ (x : ℕ). x % 2 ^ w) e
 
-mul-get-eight : tie.Need-mul-get-eight
-mul-get-eight c = search needs
-
-mul-get-eight-2 : tie.Need-mul-get-eight-2
-mul-get-eight-2 c = search needs
-
-add-get-eight : tie.Need-add-get-eight
-add-get-eight c = search needs
-
-get-eight-requires : tie.Need-get-eight-requires
-get-eight-requires c κs = search needs
-
-six-rows-requires : tie.Need-six-rows-requires
-six-rows-requires c κs = search needs
-
-mul-get-eight-3 : tie.Need-mul-get-eight-3
-mul-get-eight-3 c = search needs
-
-mul-get-eight-4 : tie.Need-mul-get-eight-4
-mul-get-eight-4 c = search needs
-
-add-get-eight-2 : tie.Need-add-get-eight-2
-add-get-eight-2 c = search needs
-
-get-eight-requires-2 : tie.Need-get-eight-requires-2
-get-eight-requires-2 c κs = search needs
-
 returns : tie.Need-returns
 returns c =
     let a = c .before .before .before .before .before .before .args in
     says-no (λ t. c .if1 .taken (c .before .before .get-eight2 .ensures ∙ sym (same (c .before .before .before) t .twos)))
-
-mul-get-eight-5 : tie.Need-mul-get-eight-5
-mul-get-eight-5 c = search needs
-
-mul-get-eight-6 : tie.Need-mul-get-eight-6
-mul-get-eight-6 c = search needs
-
-add-get-eight-3 : tie.Need-add-get-eight-3
-add-get-eight-3 c = search needs
-
-get-eight-requires-3 : tie.Need-get-eight-requires-3
-get-eight-requires-3 c κs = search needs
 
 returns-2 : tie.Need-returns-2
 returns-2 c =
     let a = c .before .before .before .before .before .before .before .before .before .args in
     says-no (λ t. c .if2 .taken (first (c .before .before .get-eight3 .result) 48 (c .before .before .get-eight3 .ensures) ∙ field-mod (a .bytes .now) (8 * (10 * a .m + 6 * a .j)) 64 48 (omega arith) ∙ sym (same (c .before .before .before .before .before .before) t .fours)))
 
-mul-get-eight-7 : tie.Need-mul-get-eight-7
-mul-get-eight-7 c = search needs
-
-mul-get-eight-8 : tie.Need-mul-get-eight-8
-mul-get-eight-8 c = search needs
-
-add-get-eight-4 : tie.Need-add-get-eight-4
-add-get-eight-4 c = search needs
-
-get-eight-requires-4 : tie.Need-get-eight-requires-4
-get-eight-requires-4 c κs = search needs
-
 returns-3 : tie.Need-returns-3
 returns-3 c =
     let a = c .before .before .before .before .before .before .before .before .before .before .before .before .args in
     says-no (λ t. c .if3 .taken (first (c .before .before .get-eight4 .result) 32 (c .before .before .get-eight4 .ensures) ∙ field-mod (a .bytes .now) (8 * (6 * a .m + 4 * a .j)) 64 32 (omega arith) ∙ sym (same (c .before .before .before .before .before .before .before .before .before) t .eights)))
 
-mul-get-field : tie.Need-mul-get-field
-mul-get-field c = search needs
-
-mul-get-field-2 : tie.Need-mul-get-field-2
-mul-get-field-2 c = search needs
-
-add-get-field : tie.Need-add-get-field
-add-get-field c = search needs
-
-get-field-requires : tie.Need-get-field-requires
-get-field-requires c κs = search needs
-
-cast-if4 : tie.Need-cast-if4
-cast-if4 c = search needs
-
 returns-4 : tie.Need-returns-4
 returns-4 c =
     let a = c .before .before .before .before .before .before .before .before .before .before .before .before .before .before .before .args in
     says-no (λ t. c .if4 .taken (c .before .before .get-field .ensures ∙ sym (same (c .before .before .before .before .before .before .before .before .before .before .before .before) t .sixteens)))
-
-mul-get-field-3 : tie.Need-mul-get-field-3
-mul-get-field-3 c = search needs
-
-mul-get-field-4 : tie.Need-mul-get-field-4
-mul-get-field-4 c = search needs
-
-add-get-field-2 : tie.Need-add-get-field-2
-add-get-field-2 c = search needs
-
-get-field-requires-2 : tie.Need-get-field-requires-2
-get-field-requires-2 c κs = search needs
-
-cast-if5 : tie.Need-cast-if5
-cast-if5 c = search needs
 
 returns-5 : tie.Need-returns-5
 returns-5 c =
@@ -148,9 +67,6 @@ add-get-field-3 c = omega (arith, c .before .before .before .before .before .bef
 
 get-field-requires-3 : tie.Need-get-field-requires-3
 get-field-requires-3 c κs = omega (arith, c .before .before .before .before .before .before .before .before .before .before .before .before .before .before .before .before .before .before .pre)
-
-cast-result : tie.Need-cast-result
-cast-result c = search needs
 
 returns-6 : tie.Need-returns-6
 returns-6 c =
@@ -171,41 +87,41 @@ pub six-right-spec : {M : Type 1} → statement M
 six-right-spec =
     tie.close
     (tie.spec
-    mul-get-eight
-    mul-get-eight-2
-    add-get-eight
-    get-eight-requires
-    six-rows-requires
-    mul-get-eight-3
-    mul-get-eight-4
-    add-get-eight-2
-    get-eight-requires-2
+    (λ c. search needs)
+    (λ c. search needs)
+    (λ c. search needs)
+    (λ c κs. search needs)
+    (λ c κs. search needs)
+    (λ c. search needs)
+    (λ c. search needs)
+    (λ c. search needs)
+    (λ c κs. search needs)
     returns
-    mul-get-eight-5
-    mul-get-eight-6
-    add-get-eight-3
-    get-eight-requires-3
+    (λ c. search needs)
+    (λ c. search needs)
+    (λ c. search needs)
+    (λ c κs. search needs)
     returns-2
-    mul-get-eight-7
-    mul-get-eight-8
-    add-get-eight-4
-    get-eight-requires-4
+    (λ c. search needs)
+    (λ c. search needs)
+    (λ c. search needs)
+    (λ c κs. search needs)
     returns-3
-    mul-get-field
-    mul-get-field-2
-    add-get-field
-    get-field-requires
-    cast-if4
+    (λ c. search needs)
+    (λ c. search needs)
+    (λ c. search needs)
+    (λ c κs. search needs)
+    (λ c. search needs)
     returns-4
-    mul-get-field-3
-    mul-get-field-4
-    add-get-field-2
-    get-field-requires-2
-    cast-if5
+    (λ c. search needs)
+    (λ c. search needs)
+    (λ c. search needs)
+    (λ c κs. search needs)
+    (λ c. search needs)
     returns-5
     mul-get-field-5
     mul-get-field-6
     add-get-field-3
     get-field-requires-3
-    cast-result
+    (λ c. search needs)
     returns-6)

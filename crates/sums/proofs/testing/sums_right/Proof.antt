@@ -24,15 +24,6 @@ module _ (D e : ℕ) (h : e ≤ D) (bs : List ℕ) where
   part : SumsRight D bs → SumsBetween D bs (2 ^ e) (2 ^ D)
   part s k a b = s k (omega (arith, pow-pos e)) b
 
-lowest-three-requires : tie.Need-lowest-three-requires
-lowest-three-requires c κs = search needs
-
-sub-high-rows : tie.Need-sub-high-rows
-sub-high-rows c = search needs
-
-high-rows-requires : tie.Need-high-rows-requires
-high-rows-requires c κs = search needs
-
 returns : tie.Need-returns
 returns c =
     let a = c .before .before .before .before .before .args in
@@ -42,12 +33,6 @@ returns-2 : tie.Need-returns-2
 returns-2 c =
     let a = c .before .before .before .before .args in
     says-no (λ s. c .before .lowest-three .ensures .no (c .if2 .left) (part (a .deep) (a .deep - 3) (omega arith) (a .bytes .now) s))
-
-lowest-six-requires : tie.Need-lowest-six-requires
-lowest-six-requires c κs = search needs
-
-high-rows-requires-2 : tie.Need-high-rows-requires-2
-high-rows-requires-2 c κs = search needs
 
 returns-3 : tie.Need-returns-3
 returns-3 c =
@@ -63,12 +48,12 @@ pub sums-right-spec : {M : Type 1} → statement M
 sums-right-spec =
     tie.close
     (tie.spec
-    lowest-three-requires
-    sub-high-rows
-    high-rows-requires
+    (λ c κs. search needs)
+    (λ c. search needs)
+    (λ c κs. search needs)
     returns
     returns-2
-    lowest-six-requires
-    high-rows-requires-2
+    (λ c κs. search needs)
+    (λ c κs. search needs)
     returns-3
     returns-4)

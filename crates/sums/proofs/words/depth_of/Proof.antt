@@ -10,17 +10,5 @@ use Rattle.sums.proofs.words.depth_of.Tie as tie
 returns : tie.Need-returns
 returns c = sym depth-zero ∙ ap depthOf {x = 0} {y = c .before .args .k} (omega arith)
 
-cast-t4 : tie.Need-cast-t4
-cast-t4 c = search needs
-
-depth-requires : tie.Need-depth-requires
-depth-requires c κs = search needs
-
-cast-result : tie.Need-cast-result
-cast-result c = search needs
-
-returns-2 : tie.Need-returns-2
-returns-2 c = search needs
-
 pub depth-of-spec : {M : Type 1} → statement M
-depth-of-spec = tie.close (tie.spec returns cast-t4 depth-requires cast-result returns-2)
+depth-of-spec = tie.close (tie.spec returns (λ c. search needs) (λ c κs. search needs) (λ c. search needs) (λ c. search needs))

@@ -15,9 +15,6 @@ at c = placed (c .before .before .pre .0) (c .before .before .pre .1) (c .depth-
 depth-of-requires : tie.Need-depth-of-requires
 depth-of-requires c κs = omega (arith, bounds (c .before .pre .0))
 
-add-w : tie.Need-add-w
-add-w c = search needs
-
 sub-w : tie.Need-sub-w
 sub-w c = omega (arith, at c)
 
@@ -45,7 +42,7 @@ get-word-spec =
     tie.close
     (tie.spec
     depth-of-requires
-    add-w
+    (λ c. search needs)
     sub-w
     shl-get-field
     mul-get-field

@@ -8,9 +8,6 @@ use Rattle.sums.proofs.Rooms.{bounds}
 use Rattle.sums.proofs.words.leaf_bit.Statement.{statement}
 use Rattle.sums.proofs.words.leaf_bit.Tie as tie
 
-shl-get-bit : tie.Need-shl-get-bit
-shl-get-bit c = search needs
-
 add-get-bit : tie.Need-add-get-bit
 add-get-bit c = omega (arith, bounds (c .before .pre .0))
 
@@ -24,4 +21,4 @@ returns c =
     c .get-bit .ensures ∙ ap (bit (s .args .bytes .now)) (omega (arith, bounds (s .pre .0)))
 
 pub leaf-bit-spec : {M : Type 1} → statement M
-leaf-bit-spec = tie.close (tie.spec shl-get-bit add-get-bit get-bit-requires returns)
+leaf-bit-spec = tie.close (tie.spec (λ c. search needs) add-get-bit get-bit-requires returns)

@@ -8,18 +8,6 @@ use Rattle.sums.proofs.Rooms.{bounds}
 use Rattle.sums.proofs.words.leaf_part.Statement.{statement}
 use Rattle.sums.proofs.words.leaf_part.Tie as tie
 
-sub-first : tie.Need-sub-first
-sub-first c = search needs
-
-shl-first : tie.Need-shl-first
-shl-first c = search needs
-
-sub-end : tie.Need-sub-end
-sub-end c = search needs
-
-shl-end : tie.Need-shl-end
-shl-end c = search needs
-
 -- where the part starts and ends
 record Ends (D : ℕ) : Type 0 where
   first : 3 * 2 ^ (D - 3) % 2 ^ 64 ≡ 3 * 2 ^ (D - 3)
@@ -49,10 +37,10 @@ pub leaf-part-spec : {M : Type 1} → statement M
 leaf-part-spec =
     tie.close
     (tie.spec
-    sub-first
-    shl-first
-    sub-end
-    shl-end
+    (λ c. search needs)
+    (λ c. search needs)
+    (λ c. search needs)
+    (λ c. search needs)
     sub-result
     part-result-start
     part-result-end

@@ -9,17 +9,11 @@ use Rattle.sums.proofs.Rooms.{bounds}
 use Rattle.sums.proofs.words.put_leaf_bit.Statement.{statement}
 use Rattle.sums.proofs.words.put_leaf_bit.Tie as tie
 
-shl-put-bit : tie.Need-shl-put-bit
-shl-put-bit c = search needs
-
 add-put-bit : tie.Need-add-put-bit
 add-put-bit c = omega (arith, bounds (c .before .before .pre .0))
 
 put-bit-requires : tie.Need-put-bit-requires
 put-bit-requires c κs = omega (arith, bounds (c .before .before .pre .0))
-
-same-length : tie.Need-same-length
-same-length c = search needs
 
 returns : tie.Need-returns
 unfolding putLeafBit
@@ -31,4 +25,4 @@ returns c =
 
 pub put-leaf-bit-spec : {M : Type 1} → statement M
 put-leaf-bit-spec =
-    tie.close (tie.spec shl-put-bit add-put-bit put-bit-requires same-length returns)
+    tie.close (tie.spec (λ c. search needs) add-put-bit put-bit-requires (λ c. search needs) returns)

@@ -16,9 +16,6 @@ at c = placed (c .before .before .pre .0) (c .before .before .pre .1) (c .depth-
 depth-of-requires : tie.Need-depth-of-requires
 depth-of-requires c κs = omega (arith, bounds (c .before .pre .0))
 
-add-w : tie.Need-add-w
-add-w c = search needs
-
 sub-w : tie.Need-sub-w
 sub-w c = omega (arith, at c)
 
@@ -42,9 +39,6 @@ put-field-requires c κs =
       subst⁻¹ (λ (x : ℕ). a .v < 2 ^ x) w (c .before .before .before .pre .2),
     )
 
-same-length : tie.Need-same-length
-same-length c = search needs
-
 returns : tie.Need-returns
 unfolding putWord
 returns c =
@@ -59,11 +53,11 @@ put-word-spec =
     tie.close
     (tie.spec
     depth-of-requires
-    add-w
+    (λ c. search needs)
     sub-w
     shl-put-field
     mul-put-field
     add-put-field
     put-field-requires
-    same-length
+    (λ c. search needs)
     returns)

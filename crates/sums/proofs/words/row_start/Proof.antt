@@ -9,15 +9,6 @@ use Rattle.nodes.proofs.Depths.{pow-next}
 use Rattle.sums.proofs.words.row_start.Statement.{statement}
 use Rattle.sums.proofs.words.row_start.Tie as tie
 
-add-result : tie.Need-add-result
-add-result c = search needs
-
-sub-result : tie.Need-sub-result
-sub-result c = search needs
-
-shl-result : tie.Need-shl-result
-shl-result c = search needs
-
 returns : tie.Need-returns
 returns c =
     let d = c .args .d in
@@ -27,4 +18,4 @@ returns c =
     ∙ ap (λ (x : ℕ). x * 2 ^ d) e ∙ omega (arith, add-mul 2 w (2 ^ d), mul-comm w (2 ^ d), pow-next d)
 
 pub row-start-spec : {M : Type 1} → statement M
-row-start-spec = tie.close (tie.spec add-result sub-result shl-result returns)
+row-start-spec = tie.close (tie.spec (λ c. search needs) (λ c. search needs) (λ c. search needs) returns)
