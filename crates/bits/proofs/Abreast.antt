@@ -9,7 +9,7 @@ use lib.Pow.{pow-pos, pow-add, split, high, low, shr-shr, mod-mod-pow, ones-lt, 
 use lib.Pow as P
 use Rattle.bits.specs.Bits.{digit}
 use Rattle.bits.proofs.Laws.{digit-shift, digit-mod}
-use Rattle.bits.specs.Abreast.{part, abreast, Halves, Narrow, Joined, Packed}
+use Rattle.bits.specs.inner.Abreast.{part, abreast, Halves, Narrow, Joined, Packed}
 
 -- ---- the words of a number
 

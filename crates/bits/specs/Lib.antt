@@ -1,3 +1,3 @@
 pub mod Bits
-pub mod Windows
-pub mod Abreast
+pub mod Little
+pub mod inner

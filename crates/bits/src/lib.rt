@@ -1,10 +1,9 @@
-// Bits and fields of bits in lent bytes. A field goes through one window of four bytes that always lies inside. Four bytes hold a
-// field of up to 25 bits wherever in a byte it starts: fields to 24 bits, and one bit to spare.
+// Bits, bytes and numbers of several bytes in lent bytes.
 ghost use mathlib.Core.Path.{_≡_};
 ghost use Prim.Native.Nat.{_+_, _*_, _/_, _%_, _^_, _≤_, _<_};
 ghost use lib.ListN.{length, getD, set};
 ghost use Rattle.bits.specs.Bits.{bit, field, putBit, putField};
-ghost use Rattle.bits.specs.Windows.{little, putLittle, Window};
+ghost use Rattle.bits.specs.Little.{little, putLittle};
 
 // Bit p of the bytes: 0 or 1.
 pub fn get_bit(bytes: &[u8], p: usize) -> u8
@@ -35,7 +34,7 @@ fn byte(bytes: &[u8], i: usize) -> u32
 }
 
 // The four bytes from i on as a number, lowest first.
-fn window(bytes: &[u8], i: usize) -> u32
+pub fn get_four(bytes: &[u8], i: usize) -> u32
     requires { ⌜ i + 4 ≤ length (now bytes) ⌝ }
     ensures { λ r. ⌜ r ≡ little (now (bytes .entry)) i 4 ⌝ }
 {
@@ -48,17 +47,7 @@ pub fn get_eight(bytes: &[u8], i: usize) -> u64
     requires { ⌜ i + 8 ≤ length (now bytes) ⌝ }
     ensures { λ r. ⌜ r ≡ field (now (bytes .entry)) (8 * i) 64 ⌝ }
 {
-    window(bytes, i) as u64 + 4294967296 * (window(bytes, i + 4) as u64)
-}
-
-// Where the window that holds the bits from s on starts.
-fn place(len: usize, s: usize) -> usize
-    requires { ⌜ 4 ≤ len ⌝ }
-    ensures { λ r. ⌜ Window len s r ⌝ }
-{
-    let i = s / 8;
-    let m = len - 4;
-    if i < m { i } else { m }
+    get_four(bytes, i) as u64 + 4294967296 * (get_four(bytes, i + 4) as u64)
 }
 
 // Byte i: the field of its eight bits.
@@ -67,15 +56,6 @@ pub fn get_byte(bytes: &[u8], i: usize) -> u32
     ensures { λ r. ⌜ r ≡ field (now (bytes .entry)) (8 * i) 8 ⌝ }
 {
     byte(bytes, i)
-}
-
-// The number of w bits from bit s on, lowest first.
-pub fn get_field(bytes: &[u8], s: usize, w: usize) -> u32
-    requires { ⌜ (4 ≤ length (now bytes)) × (s + w ≤ 8 * length (now bytes)) × (0 < w) × (w ≤ 25) ⌝ }
-    ensures { λ r. ⌜ r ≡ field (now (bytes .entry)) s w ⌝ }
-{
-    let i = place(bytes.len(), s);
-    (window(bytes, i) >> (s - 8 * i)) % (1u32 << w)
 }
 
 fn store_byte(bytes: &mut [u8], i: usize, v: u32)
@@ -94,7 +74,7 @@ pub fn put_byte(bytes: &mut [u8], i: usize, v: u32)
 }
 
 // Stores a number as the four bytes from i on, lowest first.
-fn store_window(bytes: &mut [u8], i: usize, n: u32)
+pub fn store_four(bytes: &mut [u8], i: usize, n: u32)
     requires { ⌜ i + 4 ≤ length (now bytes) ⌝ }
     ensures { λ _. ⌜ now (bytes .exit) ≡ putLittle (now (bytes .entry)) i 4 n ⌝ }
 {
@@ -109,7 +89,7 @@ pub fn put_four(bytes: &mut [u8], i: usize, v: u32)
     requires { ⌜ i + 4 ≤ length (now bytes) ⌝ }
     ensures { λ _. ⌜ now (bytes .exit) ≡ putField (now (bytes .entry)) (8 * i) 32 v ⌝ }
 {
-    store_window(bytes, i, v);
+    store_four(bytes, i, v);
 }
 
 // Sets the six bytes from i on to v: the field of their 48 bits.
@@ -129,17 +109,4 @@ pub fn put_eight(bytes: &mut [u8], i: usize, v: u64)
 {
     put_four(bytes, i, (v % 4294967296) as u32);
     put_four(bytes, i + 4, (v / 4294967296) as u32);
-}
-
-// Sets the w bits from bit s on to the number v, lowest first.
-pub fn put_field(bytes: &mut [u8], s: usize, w: usize, v: u32)
-    requires { ⌜ (4 ≤ length (now bytes)) × (s + w ≤ 8 * length (now bytes)) × (0 < w) × (w ≤ 25) × (v < 2 ^ w) ⌝ }
-    ensures { λ _. ⌜ now (bytes .exit) ≡ putField (now (bytes .entry)) s w v ⌝ }
-{
-    let i = place(bytes.len(), s);
-    let k = s - 8 * i;
-    let n = window(bytes, i);
-    let low = n % (1u32 << k);
-    let high = n >> k >> w;
-    store_window(bytes, i, (((high << w) + v) << k) + low);
 }

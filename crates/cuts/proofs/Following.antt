@@ -5,9 +5,9 @@ use mathlib.Core.Logic.{_≢_}
 use Prim.Native.Nat.{ℕ, _/_, _^_, _≤_, _<_}
 use native.Mathlib.Omega.{arith}
 use Rattle.nodes.specs.Neighbours.{edge}
-use Rattle.nodes.specs.Table.{Says}
+use Rattle.tables.specs.Table.{Says}
 use Rattle.cuts.specs.Cuts.{named, Cut, GoodCuts}
-use Rattle.cuts.specs.Steps.{Follows}
+use Rattle.cuts.specs.inner.Steps.{Follows}
 
 pub good-follows : {P : ℕ → Type 0} {n : ℕ} → GoodCuts P → P n → Follows P n
 good-follows {P} {n} G p = record { up = λ h. G .up n h p; over = λ h. G .over n h p }

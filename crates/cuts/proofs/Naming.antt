@@ -8,11 +8,11 @@ use lib.Dec.{eqb}
 use lib.Count.{trailingZeros}
 use Rattle.bits.proofs.Laws.{one-shl}
 use Rattle.nodes.specs.Depth.{depthOf}
-use Rattle.nodes.specs.Table.{Says}
+use Rattle.tables.specs.Table.{Says}
 use Rattle.nodes.proofs.Depths.{at-depth, depth-is}
-use Rattle.nodes.proofs.Tables.{says-equal}
+use Rattle.tables.proofs.Tables.{says-equal}
 use Rattle.cuts.specs.Cuts.{Cut, named}
-use Rattle.cuts.specs.Steps.{CutPlace}
+use Rattle.cuts.specs.inner.Steps.{CutPlace}
 use Rattle.cuts.proofs.Places.{cut-place, cut-set, place-name, names-zeros, names-named}
 
 -- the code's shifts lose nothing

@@ -8,7 +8,7 @@ use Rattle.nodes.specs.Depth.{depthOf}
 use Rattle.nodes.proofs.Depths.{at-depth, depth-right}
 use Rattle.sums.proofs.Ranks.{Bits}
 use Rattle.cuts.specs.Cuts.{Cut, named, placeOf}
-use Rattle.cuts.specs.Steps.{CutPlace}
+use Rattle.cuts.specs.inner.Steps.{CutPlace}
 use Rattle.cuts.proofs.Places.{cutPlace, cut-place, cut-low, cut-depth, cut-set, named-once}
 use Rattle.cuts.proofs.Following.{place-cut}
 

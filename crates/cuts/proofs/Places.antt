@@ -11,7 +11,7 @@ use Rattle.nodes.specs.Depth.{depthOf}
 use Rattle.nodes.proofs.Depths.{At, at-left, at-right, at-depth, depth-is}
 use Rattle.sums.proofs.Counts.{byNode, at-first}
 use Rattle.cuts.specs.Cuts.{named, Cut}
-use Rattle.cuts.specs.Steps.{CutPlace}
+use Rattle.cuts.specs.inner.Steps.{CutPlace}
 use Rattle.cuts.proofs.CutBits.{first, CutBit, first-suc, bit-names, dec-cut-bit, cut-in, cut-out, cut-bit-depth}
 
 -- ---- the node that a place names

@@ -11,9 +11,9 @@ use lib.Dec.{leb, ltb, eqb}
 use borrow.Author.Tests.{ltb-true, eqb-true}
 use Rattle.nodes.specs.Depth.{depthOf}
 use Rattle.nodes.specs.Neighbours.{edge}
-use Rattle.nodes.specs.Table.{Row, unless, Answers, Outcome, Says}
+use Rattle.tables.specs.Table.{Row, unless, Answers, Outcome, Says}
 use Rattle.nodes.proofs.Depths.{At, at-depth}
-use Rattle.nodes.proofs.Tables.{is-done}
+use Rattle.tables.proofs.Tables.{is-done}
 use Rattle.panel.specs.Panels.{deepOf, CutOf, Good, InRange, LeafOf, numberIn, leafCount}
 use Rattle.cuts.specs.Cuts.{sibling}
 use Rattle.panel.specs.Calls.{panelRows, Together, Fresh, SplitAt, MergeAt}

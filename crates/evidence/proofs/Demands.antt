@@ -11,19 +11,19 @@ use Rattle.nodes.specs.declared.triples.Triple.{Triple}
 use Rattle.nodes.specs.Depth.{depthOf}
 use Rattle.nodes.specs.Limits.{KnownNode}
 use Rattle.nodes.specs.Neighbours.{none, neighboursOf, edge}
-use Rattle.nodes.specs.Corners.{Triangle, InPanel, cornersOf, twiceArea}
-use Rattle.nodes.specs.Table.{Row, unless, Outcome}
-use Rattle.nodes.specs.Calls.{nodeRows, Neighbours, noCorners, Corners}
+use Rattle.triangles.specs.Corners.{Triangle, InPanel, cornersOf, twiceArea}
+use Rattle.tables.specs.Table.{Row, unless, Outcome}
+use Rattle.triangles.specs.Calls.{nodeRows, Neighbours, noCorners, Corners}
 use Rattle.nodes.proofs.Depths.{depth-le}
 use Rattle.nodes.proofs.Edges.{edge-mutual}
 use Rattle.nodes.proofs.Neighbouring.{left-right}
-use Rattle.nodes.proofs.Sides.{Across, Beside, edge-across, left-beside}
-use Rattle.nodes.proofs.Borders.{Border, border}
-use Rattle.nodes.proofs.Cornering.{in-panel}
-use Rattle.nodes.proofs.Areas.{area-is}
-use Rattle.nodes.proofs.Outcomes.{neighbours-one, corners-one}
+use Rattle.triangles.proofs.Sides.{Across, Beside, edge-across, left-beside}
+use Rattle.triangles.proofs.Borders.{Border, border}
+use Rattle.triangles.proofs.Cornering.{in-panel}
+use Rattle.triangles.proofs.Areas.{area-is}
+use Rattle.triangles.proofs.Outcomes.{neighbours-one, corners-one}
 use Rattle.sums.specs.Rank.{rank}
-use Rattle.sums.specs.Words.{word, leafBit}
+use Rattle.words.specs.Words.{word, leafBit}
 use Rattle.sums.proofs.Counts.{word-all}
 use Rattle.cuts.specs.Cuts.{CoverOnce}
 use Rattle.cuts.proofs.Areas.{total}
@@ -32,14 +32,16 @@ use Rattle.panel.specs.Calls.{panelRows, leafRows, Judged, Count, LeafBits, Lea
 use Rattle.panel.proofs.GoodPanels.{leaf-in-range, leaf-areas}
 use Rattle.panel.proofs.SameBytes.{bytes-same}
 use Rattle.panel.proofs.Once.{judge-one, count-one, leaf-bits-one, leaf-at-one, number-of-one, open-one, split-one, merge-one}
-use Rattle.requests.specs.Requests.{Fine, Called, Step, Run}
+use Rattle.requests.specs.Requests.{Called, Step, Run}
+use Rattle.records.specs.Records.{Fine}
 use Rattle.requests.specs.Requests.Called.{opened, refused, split as splits, merge as merges}
 use Rattle.requests.specs.Requests.Step.{bad, call}
-use Rattle.requests.specs.Holding.{Holds}
+use Rattle.requests.specs.inner.Holding.{Holds}
 use Rattle.requests.proofs.Once.{step-one, run-one}
 use Rattle.requests.proofs.Keeping.{step-refused, run-holds}
 use Rattle.evidence.specs.Known.{Every, knownCases}
-use Rattle.evidence.proofs.Exactly.{Rising, Exactly, refused-exactly, outcome-under}
+use Rattle.tables.specs.Exactly.{Exactly}
+use Rattle.tables.proofs.Exactness.{Rising, refused-exactly, outcome-under}
 use Rattle.evidence.proofs.Known.{known}
 use Rattle.evidence.proofs.Numbers.{NumbersName, numbers-name, number-of-leaf-at, leaf-at-number-of}
 use Rattle.evidence.proofs.Sequences.{Reached, always-good, always-covers, always-long-side, split-grows, back-answers, back-restores, again-restores}

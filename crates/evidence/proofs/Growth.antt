@@ -9,7 +9,7 @@ use lib.ListN.{length, length-map}
 use Rattle.nodes.specs.Depth.{depthOf}
 use Rattle.nodes.proofs.Depths.{at-depth}
 use Rattle.sums.specs.Rank.{rank}
-use Rattle.sums.specs.Words.{leafBit}
+use Rattle.words.specs.Words.{leafBit}
 use Rattle.sums.proofs.Ranks.{rank-ext}
 use Rattle.sums.proofs.Counts.{word-all}
 use Rattle.cuts.specs.Cuts.{Cut, named, Leaf, placeOf}

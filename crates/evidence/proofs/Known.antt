@@ -11,12 +11,12 @@ use Rattle.bits.specs.Bits.{run}
 use Rattle.nodes.specs.Depth.{depthOf, depthIn}
 use Rattle.nodes.specs.Limits.{greatestDepth}
 use Rattle.nodes.specs.Neighbours.{neighboursOf, neighboursAt}
-use Rattle.nodes.specs.Corners.{cornersOf, cornersAt}
-use Rattle.nodes.specs.Table.{Answers}
-use Rattle.nodes.specs.Calls.{nodeRows}
-use Rattle.nodes.proofs.Tables.{is-done}
+use Rattle.triangles.specs.Corners.{cornersOf, cornersAt}
+use Rattle.tables.specs.Table.{Answers}
+use Rattle.triangles.specs.Calls.{nodeRows}
+use Rattle.tables.proofs.Tables.{is-done}
 use Rattle.sums.specs.Rank.{rank}
-use Rattle.sums.specs.Words.{word, leafBit}
+use Rattle.words.specs.Words.{word, leafBit}
 use Rattle.panel.specs.Panels.{Fits}
 use Rattle.panel.specs.Calls.{Fresh, Open}
 use Rattle.panel.proofs.Rows.{is-good}

@@ -1,10 +1,9 @@
-pub mod Saying
-pub mod Testing
 pub mod Calling
-pub mod Known
-pub mod Growth
-pub mod ThereAndBack
-pub mod Sequences
-pub mod Numbers
-pub mod Exactly
 pub mod Demands
+pub mod Growth
+pub mod Known
+pub mod Numbers
+pub mod Saying
+pub mod Sequences
+pub mod Testing
+pub mod ThereAndBack

@@ -3,8 +3,8 @@ use mathlib.Core.Path.{_≡_, refl, sym, subst}
 use mathlib.Core.Logic.{_↔_}
 use mathlib.Core.List.{List, [], _∷_}
 use Prim.Native.Nat.{ℕ, _<_}
-use Rattle.nodes.specs.Table.{unless}
-use Rattle.nodes.proofs.Tables.{is-done}
+use Rattle.tables.specs.Table.{unless}
+use Rattle.tables.proofs.Tables.{is-done}
 use Rattle.cuts.specs.Cuts.{placeOf}
 use Rattle.panel.specs.Panels.{deepOf, Good, LeafOf, numberIn, leafCount}
 use Rattle.panel.specs.Calls.{LeafNumbered, LeafAt, NumberOf}

@@ -8,8 +8,8 @@ use native.Mathlib.Omega.{arith}
 use Rattle.bits.proofs.Laws.{Bytes}
 use Rattle.nodes.specs.Depth.{depthOf}
 use Rattle.nodes.specs.Neighbours.{edge}
-use Rattle.nodes.specs.Table.{Row, unless, Outcome}
-use Rattle.nodes.proofs.Tables.{answers-one, is-done}
+use Rattle.tables.specs.Table.{Row, unless, Outcome}
+use Rattle.tables.proofs.Tables.{answers-one, is-done}
 use Rattle.cuts.specs.Cuts.{CoverOnce}
 use Rattle.panel.specs.Panels.{deepOf, CutOf, Good, LeafOf, leafCount}
 use Rattle.panel.specs.Calls.{leafRows, Open, SplitAt, Split, Together, MergeAt, Merge}

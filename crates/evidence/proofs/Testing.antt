@@ -12,9 +12,9 @@ use Rattle.bits.specs.Bits.{bit}
 use Rattle.nodes.specs.Depth.{depthOf}
 use Rattle.nodes.specs.Limits.{leastDepth, greatestDepth}
 use Rattle.nodes.specs.Neighbours.{edge}
-use Rattle.nodes.specs.Table.{Says}
-use Rattle.nodes.proofs.Tables.{says-no}
-use Rattle.sums.specs.Words.{word, leafBit}
+use Rattle.tables.specs.Table.{Says}
+use Rattle.tables.proofs.Tables.{says-no}
+use Rattle.words.specs.Words.{word, leafBit}
 use Rattle.sums.specs.Sums.{SumsRight, Right}
 use Rattle.cuts.specs.Cuts.{Cut, GoodCuts, Leaf}
 use Rattle.panel.specs.Panels.{Fits, deepOf, RightLength, CutOf, Good}

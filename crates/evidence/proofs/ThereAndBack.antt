@@ -11,14 +11,14 @@ use Rattle.nodes.specs.Depth.{depthOf}
 use Rattle.nodes.specs.Neighbours.{edge}
 use Rattle.nodes.proofs.Depths.{At, at-depth, depth-left, depth-half, depth-pos}
 use Rattle.nodes.proofs.Edges.{edge-depth}
-use Rattle.sums.specs.Words.{leafBit}
+use Rattle.words.specs.Words.{leafBit}
 use Rattle.panel.specs.Panels.{deepOf, CutOf, Good, LeafOf}
 use Rattle.panel.specs.Calls.{SplitAt, Together, MergeAt}
 use Rattle.cuts.proofs.Places.{cut-low}
 use Rattle.cuts.proofs.ForcedCuts.{smallest-of}
 use Rattle.cuts.proofs.TakingBack.{Kept, Mergeable, smallest-kept, split-mergeable, split-back, back-leaf}
 use Rattle.panel.proofs.SameBytes.{dec-cuts, deep-same, bytes-same}
-use Rattle.panel.proofs.AtWork.{merging-deep, together-mergeable, mergeable-together}
+use Rattle.cutting.proofs.AtWork.{merging-deep, together-mergeable, mergeable-together}
 
 module _ {s t : List ℕ} (G : Good s) {k : ℕ} (l : LeafOf s k) (a : SplitAt s k t) where
   at : At (depthOf k) k

@@ -4,8 +4,8 @@ use mathlib.Core.List.{List, [], _∷_}
 use Prim.Native.Nat.{ℕ, suc}
 use lib.ListN.{length}
 use Rattle.nodes.specs.declared.triples.Triple.{Triple}
-use Rattle.nodes.specs.Corners.{Triangle, point, triangle}
-use Rattle.nodes.specs.Calls.{Neighbours, Corners}
+use Rattle.triangles.specs.Corners.{Triangle, point, triangle}
+use Rattle.triangles.specs.Calls.{Neighbours, Corners}
 use Rattle.panel.specs.Calls.{Judged, Count, LeafAt, Open, Split, Merge}
 
 -- ---- what a case is

@@ -4,19 +4,19 @@ use nodes::Node;
 ghost use mathlib.Core.Path.{_≡_};
 ghost use Prim.Native.Nat.{_^_, _≤_, _<_};
 ghost use Rattle.nodes.specs.Neighbours.{edge};
-ghost use Rattle.nodes.specs.Table.{Says};
-ghost use Rattle.sums.specs.Words.{Room};
+ghost use Rattle.tables.specs.Table.{Says};
+ghost use Rattle.words.specs.Words.{Room};
 ghost use Rattle.sums.specs.Sums.{Right, Summed};
 ghost use Rattle.panel.specs.Panels.{deepOf, Good, InRange, leafCount};
 ghost use Rattle.panel.specs.Calls.{Judged, LeafNumbered, Split, Merge};
-ghost use Rattle.panel.specs.Descents.{OnFirstWay};
+ghost use Rattle.leaves.specs.inner.Ways.{OnFirstWay};
 
 #[no_mangle]
 pub extern "C" fn measure_all_right(bytes: &[u8], deep: usize) -> bool
     requires { ⌜ Room deep (now bytes) ⌝ }
     ensures { λ r. ⌜ Says (Right deep (now (bytes .entry))) r ⌝ }
 {
-    sums::all_right(bytes, deep)
+    testing::all_right(bytes, deep)
 }
 
 #[no_mangle]
@@ -24,7 +24,7 @@ pub extern "C" fn measure_make_sums(bytes: &mut [u8], deep: usize)
     requires { ⌜ Room deep (now bytes) ⌝ }
     ensures { λ _. ⌜ Summed deep (now (bytes .entry)) (now (bytes .exit)) ⌝ }
 {
-    sums::make_sums(bytes, deep);
+    making::make_sums(bytes, deep);
 }
 
 #[no_mangle]
@@ -47,7 +47,7 @@ pub extern "C" fn measure_leaf_at(panel: &[u8], deep: usize, number: u32) -> u32
     requires { ⌜ Good (now panel) × (deep ≡ deepOf (now panel)) × (number < leafCount (now panel)) ⌝ }
     ensures { λ r. ⌜ LeafNumbered (now (panel .entry)) number r ⌝ }
 {
-    let k = panel::judged::leaf_at(panel, deep, LeafNumber(number));
+    let k = leaves::leaf_at(panel, deep, LeafNumber(number));
     k.0
 }
 
@@ -56,7 +56,7 @@ pub extern "C" fn measure_leaf_toward(panel: &[u8], deep: usize, node: u32, numb
     requires { ⌜ Good (now panel) × (deep ≡ deepOf (now panel)) × InRange (now panel) node ⌝ }
     ensures { λ r. ⌜ OnFirstWay (now (panel .entry)) node r (now (number .exit)) ⌝ }
 {
-    let s = panel::judged::leaf_toward(panel, deep, Node(node));
+    let s = leaves::leaf_toward(panel, deep, Node(node));
     *number = s.number.0;
     s.node.0
 }
@@ -66,7 +66,7 @@ pub extern "C" fn measure_split(panel: &mut [u8], deep: usize, node: u32) -> u32
     requires { ⌜ Good (now panel) × (deep ≡ deepOf (now panel)) ⌝ }
     ensures { λ r. ⌜ Split (now (panel .entry)) node r (now (panel .exit)) ⌝ }
 {
-    let a = panel::judged::split(panel, deep, Node(node));
+    let a = changes::split(panel, deep, Node(node));
     a.number()
 }
 
@@ -75,6 +75,6 @@ pub extern "C" fn measure_merge(panel: &mut [u8], deep: usize, node: u32) -> u32
     requires { ⌜ Good (now panel) × (deep ≡ deepOf (now panel)) ⌝ }
     ensures { λ r. ⌜ Merge (now (panel .entry)) node r (now (panel .exit)) ⌝ }
 {
-    let a = panel::judged::merge(panel, deep, Node(node));
+    let a = changes::merge(panel, deep, Node(node));
     a.number()
 }

@@ -7,10 +7,8 @@ use lib.Pow.{shr-shr, shr-le, pow-pos}
 use Rattle.nodes.specs.declared.triples.Triple.{Triple}
 use Rattle.nodes.specs.Depth.{depthOf}
 use Rattle.nodes.specs.Neighbours.{firstTriple, leftTriple, rightTriple, neighboursOf}
-use Rattle.nodes.specs.Corners.{Triangle, InPanel, firstTriangle, leftTriangle, rightTriangle, cornersOf}
 use Rattle.nodes.proofs.Depths.{At, at-depth, depth-pos, depth-le}
 use Rattle.nodes.proofs.Neighbouring.{first-triple, left-triple, right-triple, Below, neighbours-below}
-use Rattle.nodes.proofs.Cornering.{first-triangle, left-triangle, right-triangle, in-panel}
 
 -- the ancestor of k that stands some levels up is a node from 2 up
 pub record Above (k levels : ℕ) : Type 0 where
@@ -47,10 +45,10 @@ module _ (n d : ℕ) (p : 2 ≤ n) (h : n < 2 ^ 32) (e : d ≡ depthOf n) where
   start-low = div-lt-iff-lt-mul (pow-pos (d - 1)) .1 (start-bounds .1)
 
 module _ (k l : ℕ) (z : 0 < l) where
-  to-even : k / 2 ^ (l - 1) % 2 ≡ 0 → 2 * (k / 2 ^ l) ≡ k / 2 ^ (l - 1)
+  pub to-even : k / 2 ^ (l - 1) % 2 ≡ 0 → 2 * (k / 2 ^ l) ≡ k / 2 ^ (l - 1)
   to-even b = omega (arith, half k l z)
 
-  to-odd : (k / 2 ^ (l - 1) % 2 ≡ 0 → ⊥) → 2 * (k / 2 ^ l) + 1 ≡ k / 2 ^ (l - 1)
+  pub to-odd : (k / 2 ^ (l - 1) % 2 ≡ 0 → ⊥) → 2 * (k / 2 ^ l) + 1 ≡ k / 2 ^ (l - 1)
   to-odd b = omega (arith, half k l z)
 
 -- ---- the neighbours
@@ -86,34 +84,3 @@ module _ {k l : ℕ} {t : Triple} (z : 0 < l) (a : TripleAt k l t) where
 
 pub triple-end : {k l : ℕ} {t : Triple} → l ≡ 0 → TripleAt k l t → t ≡ neighboursOf k
 triple-end {k} {l} z a = a .is ∙ ap neighboursOf (own k l z)
-
--- ---- the corners
-
--- t are the corners of the ancestor
-pub record CornersAt (k levels : ℕ) (t : Triangle) : Type 0 where
-  pub above : Above k levels
-  pub is : t ≡ cornersOf (k / 2 ^ levels)
-
-pub corners-start : (n d : ℕ) (t : Triangle) → 2 ≤ n → n < 2 ^ 32 → d ≡ depthOf n → t ≡ firstTriangle (n / 2 ^ (d - 1) % 2) → CornersAt n (d - 1) t
-corners-start n d t p h e f =
-    let a = start-above n d p h e in
-    record { above = a; is = f ∙ sym (first-triangle _ (a .node) (start-low n d p h e)) }
-
-pub corners-fit : {k l : ℕ} {t : Triangle} → CornersAt k l t → InPanel t
-corners-fit a = rw (a .is) (in-panel _ (a .above .node))
-
-module _ {k l : ℕ} {t : Triangle} (z : 0 < l) (a : CornersAt k l t) where
-  pub corners-left : {r : Triangle} → r ≡ leftTriangle t → k / 2 ^ (l - 1) % 2 ≡ 0 → CornersAt k (l - 1) r
-  corners-left f b = record {
-    above = above-next z (a .above);
-    is = f ∙ ap leftTriangle (a .is) ∙ sym (left-triangle _ (a .above .node)) ∙ ap cornersOf (to-even k l z b);
-  }
-
-  pub corners-right : {r : Triangle} → r ≡ rightTriangle t → (k / 2 ^ (l - 1) % 2 ≡ 0 → ⊥) → CornersAt k (l - 1) r
-  corners-right f b = record {
-    above = above-next z (a .above);
-    is = f ∙ ap rightTriangle (a .is) ∙ sym (right-triangle _ (a .above .node)) ∙ ap cornersOf (to-odd k l z b);
-  }
-
-pub corners-end : {k l : ℕ} {t : Triangle} → l ≡ 0 → CornersAt k l t → t ≡ cornersOf k
-corners-end {k} {l} z a = a .is ∙ ap cornersOf (own k l z)

@@ -1,14 +1,5 @@
 pub mod Depths
-pub mod Neighbouring
-pub mod Edges
-pub mod Arrays
-pub mod Cornering
-pub mod Midpoints
-pub mod Sides
-pub mod Borders
-pub mod Areas
 pub mod Descents
-pub mod Tables
+pub mod Edges
 pub mod Mirrors
-pub mod Outcomes
-pub mod Refusing
+pub mod Neighbouring

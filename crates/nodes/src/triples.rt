@@ -1,14 +1,9 @@
 // A node's neighbours of its own depth.
 use crate::numbers::Node;
 use crate::numbers::depth;
-use crate::numbers::known;
-use crate::refusals::Around;
-use crate::refusals::Refusal;
 ghost use mathlib.Core.Path.{_≡_};
 ghost use Prim.Native.Nat.{_^_, _≤_, _<_};
 ghost use Rattle.nodes.specs.Neighbours.{rightChild, leftTriple, rightTriple, neighboursOf};
-ghost use Rattle.nodes.specs.Refusals.{aroundNumber, aroundTriple};
-ghost use Rattle.nodes.specs.Calls.{Neighbours};
 
 // Left, right and edge; 0 is none.
 pub struct Triple {
@@ -78,14 +73,4 @@ pub fn triple_of(n: Node) -> Triple
         }
     }
     t
-}
-
-// The neighbours of n; refused below 2 and above the greatest node.
-pub fn neighbours(n: Node) -> Around
-    ensures { λ r. ⌜ Neighbours (n .0) (aroundNumber r) (aroundTriple r) ⌝ }
-{
-    if !known(n) {
-        return Around::No(Refusal::NoSuchNode);
-    }
-    Around::Neighbours(triple_of(n))
 }

@@ -10,17 +10,17 @@ use lib.ListN.{length}
 use lib.Pow.{pow-pos}
 use Rattle.bits.specs.Bits.{digit, bit}
 use Rattle.nodes.proofs.Depths.{pow-next, at-root, depth-zero}
-use Rattle.sums.specs.Words.{word, putWord, leafBit, putLeafBit, Room}
+use Rattle.words.specs.Words.{word, putWord, leafBit, putLeafBit, Room}
 use Rattle.sums.specs.Sums.{Right, Summed}
-use Rattle.sums.proofs.Rooms.{room-same}
-use Rattle.sums.proofs.Slots.{wide, packed, from-zero, from-one, word-put-same, length-putWord, bit-put-word}
-use Rattle.sums.proofs.Leaves.{length-put-leaf, leaf-put-same, leaf-put-other, bit-put-leaf, word-put-leaf}
+use Rattle.words.proofs.Rooms.{room-same}
+use Rattle.words.proofs.Slots.{wide, packed, from-zero, from-one, word-put-same, length-putWord, bit-put-word}
+use Rattle.words.proofs.Leaves.{length-put-leaf, leaf-put-same, leaf-put-other, bit-put-leaf, word-put-leaf}
 use Rattle.sums.proofs.Unique.{summed-leaf, summed-right}
 use Rattle.cuts.specs.Cuts.{named, Cut, GoodCuts}
 use Rattle.panel.specs.Panels.{Fits, deepOf}
 use Rattle.panel.specs.Calls.{Fresh}
-use Rattle.cuts.specs.Steps.{CutPlace}
-use Rattle.panel.specs.Opening.{Cleared}
+use Rattle.cuts.specs.inner.Steps.{CutPlace}
+use Rattle.panel.specs.inner.Opening.{Cleared}
 use Rattle.cuts.proofs.Places.{cutPlace, cut-place, cut-set}
 use Rattle.panel.proofs.Lengths.{fits-deep, fits-right, fits-room}
 

@@ -7,7 +7,7 @@ use native.Mathlib.Omega.{arith}
 use Rattle.nodes.specs.Depth.{depthOf}
 use Rattle.nodes.proofs.Depths.{At, at-left, at-depth, depth-le}
 use Rattle.sums.specs.Rank.{rank}
-use Rattle.sums.specs.Words.{word, leafBit}
+use Rattle.words.specs.Words.{word, leafBit}
 use Rattle.sums.proofs.Counts.{byNode, sum, leaf-bits, word-sum, word-all}
 use Rattle.cuts.specs.Cuts.{CoverOnce, placeOf}
 use Rattle.panel.specs.Panels.{deepOf, CutOf, Good, InRange, LeafOf, numberIn, leafCount}

@@ -3,16 +3,16 @@ use mathlib.Core.Path.{_≡_, subst}
 use mathlib.Core.List.{List, [], _++_}
 use Prim.Native.Nat.{ℕ}
 use native.Mathlib.Decide.{ℕ-discrete}
-use Rattle.nodes.specs.declared.refusals.Answer.{Answer}
-use Rattle.nodes.specs.declared.refusals.Answer.the-variants.{Done, No}
-use Rattle.nodes.specs.declared.refusals.Refusal.{Refusal}
-use Rattle.nodes.specs.Refusals.{refusalNumber, answerNumber}
-use Rattle.nodes.specs.Table.{Row, Outcome}
-use Rattle.nodes.proofs.Refusing.{refusal-pos}
-use Rattle.nodes.proofs.Tables.{is-refused, refused-more}
+use Rattle.answers.specs.declared.Answer.{Answer}
+use Rattle.answers.specs.declared.Answer.the-variants.{Done, No}
+use Rattle.answers.specs.declared.Refusal.{Refusal}
+use Rattle.answers.specs.Refusals.{refusalNumber, answerNumber}
+use Rattle.tables.specs.Table.{Row, Outcome}
+use Rattle.answers.proofs.Refusing.{refusal-pos}
+use Rattle.tables.proofs.Tables.{is-refused, refused-more}
 use Rattle.panel.specs.Panels.{deepOf, Good}
 use Rattle.panel.specs.Calls.{panelRows, Judged}
-use Rattle.panel.specs.Judging.{Deep}
+use Rattle.panel.specs.inner.Judging.{Deep}
 use Rattle.panel.proofs.LeafRows.{good-past}
 
 pub judged-no : {s : List ℕ} (rows : List Row) {A : Type 0} {Fine Refused : A → Type 0} {x : A} {a : Answer} {e : Refusal}

@@ -4,7 +4,7 @@ use mathlib.Core.Logic.{_≢_, inl, inr}
 use mathlib.Core.List.{List, [], _∷_, _++_}
 use Prim.Native.Nat.{ℕ, _<_}
 use native.Mathlib.Omega.{arith}
-use Rattle.nodes.specs.Table.{Row, unless, Answers}
+use Rattle.tables.specs.Table.{Row, unless, Answers}
 use Rattle.panel.specs.Panels.{Good, InRange, LeafOf, leafCount}
 use Rattle.panel.specs.Calls.{panelRows, leafRows}
 use Rattle.panel.proofs.Rows.{behind}

@@ -1,5 +1,5 @@
 -- A right length is a power of two within the limits, its depth is that power's, and it has room for the words.
-use mathlib.Core.Path.{_≡_, sym, ap, _∙_, subst}
+use mathlib.Core.Path.{_≡_, sym, ap, _∙_, subst, subst⁻¹}
 use mathlib.Core.List.{List}
 use Prim.Native.Nat.{ℕ, zero, suc, _+_, _-_, _*_, _^_, _≤_}
 use native.Mathlib.Omega.{arith}
@@ -8,8 +8,8 @@ use lib.Pow.{pow-add, pow-mono, pow-pos}
 use Rattle.nodes.specs.Depth.{depthOf}
 use Rattle.nodes.specs.Limits.{leastDepth, greatestDepth}
 use Rattle.nodes.proofs.Depths.{pow-next, at-depth, at-from, depth-is, depth-le}
-use Rattle.sums.specs.Words.{Room}
-use Rattle.panel.specs.Panels.{Fits, deepOf, RightLength}
+use Rattle.words.specs.Words.{Room}
+use Rattle.panel.specs.Panels.{Fits, deepOf, RightLength, Good}
 
 -- a length that fits a depth fits no other
 pub fits-deep : (s : List ℕ) (D : ℕ) → Fits s D → deepOf s ≡ D
@@ -24,6 +24,9 @@ pub fits-room : (s : List ℕ) (D : ℕ) → Fits s D → Room D s
 fits-room s D f =
     let e : 2 ^ (D + 2) ≡ 2 ^ (D - 1) * 2 ^ 3 = ap (λ x. 2 ^ x) (let g : D + 2 ≡ D - 1 + 3 = omega (arith, f .low) in g) ∙ pow-add 2 (D - 1) 3 in
     record { low = f .low; high = omega (arith, f .high); long = omega (arith, f .long) }
+
+pub good-room : (s : List ℕ) → Good s → {D : ℕ} → D ≡ deepOf s → Room D s
+good-room s G deep = subst⁻¹ (λ x. Room x s) deep (fits-room s (deepOf s) (G .fits))
 
 -- the same as a bound in both directions, as the last bit of a panel is the last of its words
 pub fits-bits : (s : List ℕ) (D : ℕ) → Fits s D → 8 * length s ≡ 2 ^ (D + 2)

@@ -4,8 +4,8 @@ use mathlib.Core.Logic.{Iff·symm, Iff·trans}
 use mathlib.Core.List.{List, [], _∷_}
 use Prim.Native.Nat.{ℕ, _-_, _^_, _<_}
 use Rattle.bits.proofs.Laws.{Bytes}
-use Rattle.nodes.specs.Table.{Row, unless, Answers, Outcome}
-use Rattle.nodes.proofs.Tables.{answers-one, outcome-one}
+use Rattle.tables.specs.Table.{Row, unless, Answers, Outcome}
+use Rattle.tables.proofs.Tables.{answers-one, outcome-one}
 use Rattle.panel.specs.Panels.{Good, leafCount}
 use Rattle.panel.specs.Calls.{panelRows, Judged, Count, LeafBits, LeafNumbered, LeafAt, NumberOf, Fresh, Open, SplitAt, Split, MergeAt, Merge}
 use Rattle.cuts.proofs.ForcedCuts.{smallest-one}

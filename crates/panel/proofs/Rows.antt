@@ -3,7 +3,7 @@ use mathlib.Core.Path.{refl}
 use mathlib.Core.Logic.{inl, inr}
 use mathlib.Core.List.{List, _++_}
 use Prim.Native.Nat.{ℕ}
-use Rattle.nodes.specs.Table.{Row, Answers}
+use Rattle.tables.specs.Table.{Row, Answers}
 use Rattle.panel.specs.Panels.{RightLength, Good}
 use Rattle.panel.specs.Calls.{panelRows, Judged}
 

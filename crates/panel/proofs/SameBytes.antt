@@ -9,7 +9,7 @@ use lib.ListN.{length, List·getD-eq-default}
 use Rattle.bits.specs.Bits.{digit, bit}
 use Rattle.bits.proofs.Laws.{Bytes}
 use Rattle.nodes.specs.Depth.{depthOf}
-use Rattle.sums.specs.Words.{leafBit}
+use Rattle.words.specs.Words.{leafBit}
 use Rattle.sums.specs.Sums.{Right}
 use Rattle.sums.proofs.Counts.{leaf-bits}
 use Rattle.sums.proofs.Unique.{right-one}

@@ -6,7 +6,7 @@ use Prim.Native.Nat.{ℕ, _+_, _*_, _/_, _<_}
 use lib.ListN.{length}
 use Rattle.nodes.specs.Depth.{depthOf}
 use Rattle.nodes.specs.Neighbours.{edge}
-use Rattle.nodes.specs.Table.{Row, unless, Answers, Outcome}
+use Rattle.tables.specs.Table.{Row, unless, Answers, Outcome}
 use Rattle.cuts.specs.Cuts.{Smallest, sibling}
 use Rattle.panel.specs.Panels.{Fits, deepOf, RightLength, CutOf, Good, InRange, LeafOf, numberIn, leafCount, leafPart}
 

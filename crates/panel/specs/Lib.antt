@@ -1,6 +1,3 @@
-pub mod Panels
 pub mod Calls
-pub mod Judging
-pub mod Opening
-pub mod Changing
-pub mod Descents
+pub mod Panels
+pub mod inner

@@ -5,7 +5,7 @@ use Prim.Native.Nat.{ℕ, _+_, _-_, _*_, _^_, _≤_, _<_}
 use lib.ListN.{length, take, drop}
 use Rattle.nodes.specs.Depth.{depthOf}
 use Rattle.nodes.specs.Limits.{leastDepth, greatestDepth}
-use Rattle.sums.specs.Words.{word, leafBit}
+use Rattle.words.specs.Words.{word, leafBit}
 use Rattle.sums.specs.Sums.{Right}
 use Rattle.cuts.specs.Cuts.{Cut, GoodCuts, Leaf, leafNumber}
 

@@ -1,10 +1,10 @@
 // Judging a lent panel: its length, its words, its cuts.
-use nodes::Answer;
+use answers::Answer;
+use answers::Refusal;
 use nodes::Node;
-use nodes::Refusal;
-ghost use Rattle.nodes.specs.Refusals.{answerNumber};
+ghost use Rattle.answers.specs.Refusals.{answerNumber};
 ghost use Rattle.panel.specs.Calls.{Judged};
-ghost use Rattle.panel.specs.Judging.{Deep};
+ghost use Rattle.panel.specs.inner.Judging.{Deep};
 
 // The depth of the panel by its length, or 0 where the length is wrong.
 pub fn depth_of(panel: &[u8]) -> usize
@@ -32,9 +32,9 @@ pub fn judge(panel: &[u8]) -> Answer
     if deep == 0 {
         return Answer::No(Refusal::WrongLength);
     }
-    if sums::all_right(panel, deep) {
-        if sums::leaf_bit(panel, deep, 0) == 1 {
-            if cuts::cuts_good(panel, deep) {
+    if testing::all_right(panel, deep) {
+        if words::leaf_bit(panel, deep, 0) == 1 {
+            if goodcuts::cuts_good(panel, deep) {
                 return Answer::Done;
             }
         }

@@ -1,11 +1,11 @@
 // Opening a lent panel.
-use nodes::Answer;
-use nodes::Refusal;
-ghost use Rattle.nodes.specs.Refusals.{answerNumber};
-ghost use Rattle.nodes.specs.Table.{Says};
+use answers::Answer;
+use answers::Refusal;
+ghost use Rattle.answers.specs.Refusals.{answerNumber};
+ghost use Rattle.tables.specs.Table.{Says};
 ghost use Rattle.panel.specs.Panels.{Fits};
 ghost use Rattle.panel.specs.Calls.{Fresh, Open};
-ghost use Rattle.panel.specs.Opening.{Cleared};
+ghost use Rattle.panel.specs.inner.Opening.{Cleared};
 
 // Whether a panel of this depth has this length.
 fn fits(panel: &[u8], depth: u32) -> bool
@@ -38,10 +38,10 @@ fn make_fresh(panel: &mut [u8], deep: usize)
     ensures { λ _. ⌜ Fresh deep (now (panel .exit)) ⌝ }
 {
     clear(panel);
-    sums::put_word(panel, deep, 0, deep as u32);
-    sums::put_leaf_bit(panel, deep, 0, 1);
-    sums::put_leaf_bit(panel, deep, 1usize << (deep - 1), 1);
-    sums::make_sums(panel, deep);
+    words::put_word(panel, deep, 0, deep as u32);
+    words::put_leaf_bit(panel, deep, 0, 1);
+    words::put_leaf_bit(panel, deep, 1usize << (deep - 1), 1);
+    making::make_sums(panel, deep);
 }
 
 // Opens the panel: writes every byte of it, or refuses with 1 and writes none.

@@ -6,19 +6,20 @@ use Prim.Native.Nat.{ℕ, _≤_, _<_}
 use native.Mathlib.Omega.{arith}
 use lib.ListN.{length, take, drop}
 use Rattle.nodes.specs.Limits.{greatestDepth}
-use Rattle.nodes.specs.declared.refusals.Refusal.{Refusal}
-use Rattle.nodes.specs.declared.refusals.Refusal.the-variants.{WrongLength, NotGood, NoSuchNode, NotLeaf, AtGreatestDepth, AtDepthOne, LeavesMissing, NoSuchNumber, BadRecord}
-use Rattle.nodes.specs.declared.refusals.Answer.{Answer}
-use Rattle.nodes.specs.declared.refusals.Answer.the-variants.{Done, No}
-use Rattle.nodes.specs.Refusals.{refusalNumber, answerNumber}
-use Rattle.nodes.proofs.Refusing.{refusal-pos, arm-done, arm-no}
-use Rattle.nodes.proofs.Tables.{is-refused}
+use Rattle.answers.specs.declared.Refusal.{Refusal}
+use Rattle.answers.specs.declared.Refusal.the-variants.{WrongLength, NotGood, NoSuchNode, NotLeaf, AtGreatestDepth, AtDepthOne, LeavesMissing, NoSuchNumber, BadRecord}
+use Rattle.answers.specs.declared.Answer.{Answer}
+use Rattle.answers.specs.declared.Answer.the-variants.{Done, No}
+use Rattle.answers.specs.Refusals.{refusalNumber, answerNumber}
+use Rattle.answers.proofs.Refusing.{refusal-pos, arm-done, arm-no}
+use Rattle.tables.proofs.Tables.{is-refused}
 use Rattle.panel.specs.Panels.{Fits, deepOf, Good}
 use Rattle.panel.specs.Calls.{Open, Split, Merge}
-use Rattle.requests.specs.Requests.{kind, number, Fine, sizeOf, panelIn, Called, Step}
+use Rattle.requests.specs.Requests.{sizeOf, panelIn, Called, Step}
+use Rattle.records.specs.Records.{kind, number, Fine}
 use Rattle.requests.specs.Requests.Called.{opened, refused, split, merge}
 use Rattle.requests.specs.Requests.Step.{call}
-use Rattle.requests.specs.Holding.{Holds}
+use Rattle.requests.specs.inner.Holding.{Holds}
 use Rattle.requests.proofs.Parts.{no-room, none-right, same-changed, held-fits, held-inside}
 
 -- ---- open

@@ -8,13 +8,14 @@ use native.Mathlib.Omega.{arith}
 use lib.ListN.{length, getD, length-append, List·getD-append}
 use lib.Seq.{getD-append-seam}
 use Rattle.nodes.specs.Depth.{depthOf}
-use Rattle.nodes.specs.Table.{Row, Outcome}
+use Rattle.tables.specs.Table.{Row, Outcome}
 use Rattle.panel.specs.Panels.{Fits, deepOf, Good}
-use Rattle.requests.specs.Requests.{kind, number, recordAt, sizeOf, panelIn, changed, Fine, Called, Step, Runs, Run}
+use Rattle.requests.specs.Requests.{sizeOf, panelIn, changed, Called, Step, Runs, Run}
+use Rattle.records.specs.Records.{kind, number, recordAt, Fine}
 use Rattle.requests.specs.Requests.Called.{opened, refused, split, merge}
 use Rattle.requests.specs.Requests.Step.{bad, call}
 use Rattle.requests.specs.Requests.Runs.{none, more}
-use Rattle.requests.specs.Holding.{Holds}
+use Rattle.requests.specs.inner.Holding.{Holds}
 use Rattle.requests.proofs.Parts.{fits-size, no-room, none-right, panel-changed, same-changed, held-length}
 
 -- ---- a refusal changes nothing

@@ -1,5 +1,5 @@
-pub mod Parts
-pub mod Keeping
 pub mod Answering
+pub mod Keeping
 pub mod Once
+pub mod Parts
 pub mod Turns

@@ -6,11 +6,12 @@ use native.Mathlib.Omega.{arith}
 use lib.ListN.{length, drop, length-append, take-append-drop}
 use lib.Seq.{length-take-le}
 use Rattle.bits.specs.Bits.{Bytes}
-use Rattle.nodes.specs.Table.{Row, unless}
-use Rattle.nodes.proofs.Tables.{answers-one}
+use Rattle.tables.specs.Table.{Row, unless}
+use Rattle.tables.proofs.Tables.{answers-one}
 use Rattle.panel.specs.Panels.{Fits}
 use Rattle.panel.proofs.Once.{open-one, split-one, merge-one}
-use Rattle.requests.specs.Requests.{recordAt, sizeOf, panelIn, changed, Called, Step, Runs, Run}
+use Rattle.requests.specs.Requests.{sizeOf, panelIn, changed, Called, Step, Runs, Run}
+use Rattle.records.specs.Records.{recordAt}
 use Rattle.requests.specs.Requests.Called.{opened, refused, split, merge}
 use Rattle.requests.specs.Requests.Step.{bad, call}
 use Rattle.requests.specs.Requests.Runs.{none, more}

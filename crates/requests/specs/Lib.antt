@@ -1,2 +1,2 @@
 pub mod Requests
-pub mod Holding
+pub mod inner

@@ -1,42 +1,13 @@
--- Request records, and a run of them on a lent buffer, by "The request file". b is the lent buffer; D is the depth of the panel that is open
+-- A run of request records on a lent buffer, by "The request file". b is the lent buffer; D is the depth of the panel that is open
 -- at the buffer's start, and 0 where none is.
 use mathlib.Core.Path.{_≡_}
 use mathlib.Core.Logic.{_≢_}
 use mathlib.Core.List.{List, [], _∷_, _++_}
-use Prim.Native.Nat.{ℕ, zero, suc, _+_, _*_, _/_, _^_, _≤_, min}
-use lib.ListN.{length, getD, take, drop}
+use Prim.Native.Nat.{ℕ, zero, suc, _^_, min}
+use lib.ListN.{length, take, drop}
 use Rattle.bits.specs.Bits.{Bytes}
+use Rattle.records.specs.Records.{kind, number, Fine, recordAt, recordCount}
 use Rattle.panel.specs.Calls.{Open, Split, Merge}
-
--- ---- records of eight bytes
-
--- kind (0 open, 1 split, 2 merge)
-abbrev pub kind : List ℕ → ℕ
-kind r = getD r 0 0
-
--- depth or node as four bytes, lowest first
-abbrev pub number : List ℕ → ℕ
-number r = getD r 4 0 + 256 * (getD r 5 0 + 256 * (getD r 6 0 + 256 * getD r 7 0))
-
--- a record that isn't bad: it is whole, its kind isn't above 2, its three spare bytes are zero
-pub record Fine (r : List ℕ) : Type 0 where
-  pub whole : length r ≡ 8
-  pub kinds : kind r ≤ 2
-  pub spare-1 : getD r 1 0 ≡ 0
-  pub spare-2 : getD r 2 0 ≡ 0
-  pub spare-3 : getD r 3 0 ≡ 0
-
--- record i: a tail is shorter than eight bytes
-abbrev pub recordAt : List ℕ → ℕ → List ℕ
-recordAt rs i = take 8 (drop (8 * i) rs)
-
--- at most 4,096 records
-abbrev pub mostRecords : ℕ
-mostRecords = 4096
-
--- a tail of 1 to 7 bytes within that limit is one more record; later bytes are ignored
-abbrev pub recordCount : List ℕ → ℕ
-recordCount rs = min mostRecords ((length rs + 7) / 8)
 
 -- ---- one record
 

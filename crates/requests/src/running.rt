@@ -1,8 +1,8 @@
 // A run of records.
-use crate::records::least;
-use crate::records::record_at;
-use crate::records::record_count;
 use crate::stepping::step;
+use records::least;
+use records::record_at;
+use records::record_count;
 ghost use Rattle.requests.specs.Requests.{Run};
 
 // What a run comes to: how many records it answered, and the depth of the panel that is open after them, or 0.

@@ -1,15 +1,13 @@
 // One record: the call that it asks for, on the panel at the start of the lent buffer. `deep` is its depth, or 0 where none is open.
-use crate::records::fine;
-use crate::records::number_of;
-use nodes::Answer;
+use answers::Answer;
+use answers::Refusal;
 use nodes::Node;
-use nodes::Refusal;
 ghost use mathlib.Core.Path.{_≡_};
 ghost use Prim.Native.Nat.{_≤_};
 ghost use Rattle.nodes.specs.Limits.{greatestDepth};
-ghost use Rattle.nodes.specs.Refusals.{refusalNumber, answerNumber};
+ghost use Rattle.answers.specs.Refusals.{refusalNumber, answerNumber};
 ghost use Rattle.requests.specs.Requests.{sizeOf, Called, Step};
-ghost use Rattle.requests.specs.Holding.{Holds};
+ghost use Rattle.requests.specs.inner.Holding.{Holds};
 
 // What a record comes to: its answer, and the depth of the panel that is open after it, or 0.
 pub struct Stepped {
@@ -69,7 +67,7 @@ fn split(buffer: &mut [u8], deep: usize, k: u32) -> Answer
         return Answer::No(Refusal::WrongLength);
     }
     let len = size(deep);
-    panel::judged::split(&mut buffer[..len], deep, Node(k))
+    changes::split(&mut buffer[..len], deep, Node(k))
 }
 
 // Merges leaf k of the open panel.
@@ -81,7 +79,7 @@ fn merge(buffer: &mut [u8], deep: usize, k: u32) -> Answer
         return Answer::No(Refusal::WrongLength);
     }
     let len = size(deep);
-    panel::judged::merge(&mut buffer[..len], deep, Node(k))
+    changes::merge(&mut buffer[..len], deep, Node(k))
 }
 
 // Does what the record asks, and says what it comes to.
@@ -89,8 +87,8 @@ pub fn step(request: &[u8], buffer: &mut [u8], deep: usize) -> Stepped
     requires { ⌜ Holds deep (now buffer) ⌝ }
     ensures { λ r. ⌜ Step (now (request .entry)) deep (now (buffer .entry)) (answerNumber (r .answer)) (r .deep) (now (buffer .exit)) ⌝ }
 {
-    if fine(request) {
-        let number = number_of(request);
+    if records::fine(request) {
+        let number = records::number_of(request);
         let kind = request[0];
         if kind == 0 {
             return open(buffer, deep, number);

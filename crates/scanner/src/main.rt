@@ -1,7 +1,5 @@
 // The scanner: reads request records from standard input, works through them, and prints a line for each answer. Then, if a panel is
 // open, it prints a line for each of its leaves.
-mod lines;
-
 use libc::STDIN_FILENO;
 use libc::STDOUT_FILENO;
 use nodes::LeafNumber;
@@ -30,17 +28,17 @@ fn print_answers(answers: &[u8]) {
 fn print_leaves(panel: &[u8], deep: usize)
     requires { ⌜ Good (now panel) × (deep ≡ deepOf (now panel)) ⌝ }
 {
-    let n = panel::judged::count(panel, deep);
+    let n = leaves::count(panel, deep);
     for i in 0..n {
-        let k = panel::judged::leaf_at(panel, deep, LeafNumber(i));
+        let k = leaves::leaf_at(panel, deep, LeafNumber(i));
         print_line(i as u64, k.0 as u64);
     }
 }
 
 fn main() {
-    let mut input = [0u8; 8 * requests::MOST_RECORDS];
+    let mut input = [0u8; 8 * records::MOST_RECORDS];
     let mut buffer = [0u8; 1 << (nodes::GREATEST_DEPTH - 1)];
-    let mut answers = [0u8; requests::MOST_RECORDS];
+    let mut answers = [0u8; records::MOST_RECORDS];
     let got = io::read_full(STDIN_FILENO, &mut input);
     let ran = requests::run(&input[..got], &mut buffer, &mut answers);
     let count = ran.count;

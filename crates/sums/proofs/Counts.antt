@@ -7,10 +7,10 @@ use native.Mathlib.Omega.{arith}
 use lib.Pow.{pow-pos, pow-mono}
 use Rattle.bits.proofs.Laws.{bit-lt}
 use Rattle.nodes.proofs.Depths.{At, at-root, at-left, at-right}
-use Rattle.sums.specs.Words.{word, leafBit}
+use Rattle.words.specs.Words.{word, leafBit}
 use Rattle.sums.specs.Sums.{SumsRight}
 use Rattle.sums.specs.Rank.{rank}
-use Rattle.sums.proofs.Slots.{leaf-word}
+use Rattle.words.proofs.Slots.{leaf-word}
 use Rattle.sums.proofs.Ranks.{Bits, rank-none, rank-next, rank-add, rank-ext}
 
 -- a leaf bit by its node of depth D

@@ -11,9 +11,9 @@ use Rattle.bits.specs.Bits.{field}
 use Rattle.bits.proofs.Laws.{field-lt}
 use Rattle.bits.proofs.Puts.{Put, puts, length-puts, field-aside, puts-hold}
 use Rattle.nodes.proofs.Depths.{pow-next}
-use Rattle.sums.specs.Rows.{SumsBetween, Made, PairSums, Six, SixOver, SixAt, ApartSix, SixMade}
-use Rattle.sums.proofs.Slots.{from, from-leaf}
-use Rattle.sums.proofs.Rooms.{whole-words}
+use Rattle.sums.specs.inner.Rows.{SumsBetween, Made, PairSums, Six, SixOver, SixAt, ApartSix, SixMade}
+use Rattle.words.proofs.Slots.{from, from-leaf}
+use Rattle.words.proofs.Rooms.{whole-words}
 use Rattle.sums.proofs.Rows.{from-row, sums-join}
 use Rattle.sums.proofs.Pairs.{pairs-sums, sums-pairs, pairs-one}
 use Rattle.sums.proofs.Steps.{Blockwise, blocks-next, blocks-all}

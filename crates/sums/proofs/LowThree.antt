@@ -9,8 +9,8 @@ use Rattle.bits.specs.Bits.{field}
 use Rattle.bits.proofs.Laws.{le-or-lt}
 use Rattle.bits.proofs.Puts.{Put, puts, length-puts, field-aside, puts-hold}
 use Rattle.nodes.proofs.Depths.{pow-next}
-use Rattle.sums.specs.Rows.{SumsBetween, Made, PairSums, Seven, Sevens, SevenAt, ApartSeven, SevenMade}
-use Rattle.sums.proofs.Slots.{from, from-leaf}
+use Rattle.sums.specs.inner.Rows.{SumsBetween, Made, PairSums, Seven, Sevens, SevenAt, ApartSeven, SevenMade}
+use Rattle.words.proofs.Slots.{from, from-leaf}
 use Rattle.sums.proofs.Rows.{from-row}
 use Rattle.sums.proofs.Pairs.{pairs-sums, sums-pairs, pairs-one}
 use Rattle.sums.proofs.Steps.{Blockwise, blocks-next, blocks-all}

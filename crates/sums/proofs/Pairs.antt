@@ -8,10 +8,10 @@ use lib.Pow.{mod-pow-add, shr-mod}
 use Rattle.bits.specs.Bits.{digit, bit, field}
 use Rattle.bits.proofs.Laws.{run-ext, run-digit, run-digits, bit-lt, field-lt}
 use Rattle.nodes.proofs.Depths.{pow-next}
-use Rattle.sums.specs.Words.{word}
-use Rattle.bits.specs.Abreast.{part}
-use Rattle.sums.specs.Rows.{SumAt, SumsBetween, PairSums}
-use Rattle.sums.proofs.Slots.{from}
+use Rattle.words.specs.Words.{word}
+use Rattle.bits.specs.inner.Abreast.{part}
+use Rattle.sums.specs.inner.Rows.{SumAt, SumsBetween, PairSums}
+use Rattle.words.proofs.Slots.{from}
 use Rattle.sums.proofs.Rows.{word-at, from-at}
 
 -- a part of a field is a field

@@ -10,10 +10,10 @@ use lib.Pow.{pow-mono}
 use Rattle.bits.specs.Bits.{field, putField}
 use Rattle.bits.proofs.Laws.{field-lt, le-or-lt}
 use Rattle.nodes.proofs.Depths.{pow-next, at-from, depth-is}
-use Rattle.sums.specs.Words.{start, word, putWord, Room}
-use Rattle.sums.specs.Rows.{SumAt, SumsBetween}
-use Rattle.sums.proofs.Slots.{from, wide, row-from, packed, from-mono, from-top}
-use Rattle.sums.proofs.Rooms.{bounds, room-bytes}
+use Rattle.words.specs.Words.{start, word, putWord, Room}
+use Rattle.sums.specs.inner.Rows.{SumAt, SumsBetween}
+use Rattle.words.proofs.Slots.{from, wide, row-from, packed, from-mono, from-top}
+use Rattle.words.proofs.Rooms.{bounds, room-bytes}
 
 -- ---- words of depth d, which have w bits
 

@@ -4,9 +4,9 @@ use Prim.Native.Nat.{ℕ, _+_, _*_, _/_, _^_, _<_}
 use native.Mathlib.Nat.{mod-lt}
 use native.Mathlib.Omega.{arith}
 use lib.Pow.{pow-add}
-use Rattle.bits.specs.Abreast.{part, Narrow, Joined, Packed}
+use Rattle.bits.specs.inner.Abreast.{part, Narrow, Joined, Packed}
 use Rattle.bits.proofs.Abreast.{abreast-lt, part-abreast, one-word}
-use Rattle.sums.specs.Rows.{PairSums, SixOver}
+use Rattle.sums.specs.inner.Rows.{PairSums, SixOver}
 
 -- ---- a row from the row below
 

@@ -11,10 +11,10 @@ use Rattle.bits.proofs.Laws.{le-or-lt}
 use Rattle.bits.proofs.Windows.{field-one}
 use Rattle.nodes.specs.Depth.{depthOf}
 use Rattle.nodes.proofs.Depths.{pow-next, depth-left, depth-right, depth-le}
-use Rattle.sums.specs.Words.{width, word, putWord}
+use Rattle.words.specs.Words.{width, word, putWord}
 use Rattle.sums.specs.Sums.{Summed}
-use Rattle.sums.specs.Rows.{SumsBetween, Made, MadeHere}
-use Rattle.sums.proofs.Slots.{from, wide, packed, from-mono, from-one, from-leaf, word-lt, word-same, length-putWord, bit-put-word, word-put-same, word-put-other}
+use Rattle.sums.specs.inner.Rows.{SumsBetween, Made, MadeHere}
+use Rattle.words.proofs.Slots.{from, wide, packed, from-mono, from-one, from-leaf, word-lt, word-same, length-putWord, bit-put-word, word-put-same, word-put-other}
 
 abbrev pub sumOf : ℕ → List ℕ → ℕ → ℕ
 sumOf D bs k = word D bs (2 * k) + word D bs (2 * k + 1)

@@ -9,9 +9,9 @@ use lib.Pow.{pow-pos, pow-add}
 use Rattle.bits.specs.Bits.{bit}
 use Rattle.bits.proofs.Laws.{Bytes, le-or-lt}
 use Rattle.nodes.proofs.Depths.{pow-next}
-use Rattle.sums.specs.Words.{word, leafBit}
+use Rattle.words.specs.Words.{word, leafBit}
 use Rattle.sums.specs.Sums.{SumsRight, Right, Summed}
-use Rattle.sums.proofs.Slots.{packed, from-one, word-same, words-ext, leaf-word}
+use Rattle.words.proofs.Slots.{packed, from-one, word-same, words-ext, leaf-word}
 
 -- right sums over the same leaf bits are the same
 module _ (D : ℕ) (xs ys : List ℕ) (a : SumsRight D xs) (b : SumsRight D ys) (leaf : (p : ℕ) → p < 2 ^ D → leafBit D xs p ≡ leafBit D ys p) where

@@ -1,4 +1,3 @@
-pub mod Words
-pub mod Sums
 pub mod Rank
-pub mod Rows
+pub mod Sums
+pub mod inner

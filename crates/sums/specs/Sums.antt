@@ -5,7 +5,7 @@ use mathlib.Core.List.{List}
 use Prim.Native.Nat.{ℕ, _+_, _*_, _^_, _≤_, _<_}
 use lib.ListN.{length}
 use Rattle.bits.specs.Bits.{bit}
-use Rattle.sums.specs.Words.{word}
+use Rattle.words.specs.Words.{word}
 
 -- every word from 1 up, above depth D, is the sum of its two children's words
 abbrev pub SumsRight : ℕ → List ℕ → Type 0

@@ -1,6 +1,6 @@
 // The seven sums over eight leaf bits, in one number: four words of two bits, then two of three bits, then one of four.
 ghost use Prim.Native.Nat.{_<_};
-ghost use Rattle.sums.specs.Rows.{Sevens};
+ghost use Rattle.sums.specs.inner.Rows.{Sevens};
 
 // What the first four leaf bits add to it: for bits n, with sums a and b of two each, a + 4 b + (256 + 16384) (a + b).
 const FIRST: [u32; 16] = [

@@ -1,7 +1,7 @@
 // The six rows of sums over 64 leaf bits, each row in one number.
 ghost use Prim.Native.Nat.{_/_, _≤_};
-ghost use Rattle.bits.specs.Abreast.{Halves, Narrow, Joined, Packed};
-ghost use Rattle.sums.specs.Rows.{SixOver};
+ghost use Rattle.bits.specs.inner.Abreast.{Halves, Narrow, Joined, Packed};
+ghost use Rattle.sums.specs.inner.Rows.{SixOver};
 
 // A row's words, side by side: 32 of two bits, 16 of three, and so on to one of seven.
 pub struct SixRows {

@@ -3,7 +3,7 @@ use native.Mathlib.Omega.{arith}
 use mathlib.Core.Path.{_≡_, ap}
 use Prim.Native.Nat.{ℕ, _+_, _*_, _-_, _/_, _%_, _^_}
 use lib.ListN.{getD}
-use Rattle.bits.specs.Windows.{little}
+use Rattle.bits.specs.Little.{little}
 use Rattle.bits.proofs.Windows.{field-window}
 use borrow.Author.Needs.{needs}
 use Rattle.bits.proofs.get_eight.Statement.{statement}
@@ -16,7 +16,7 @@ returns c =
     let b = a .bytes .now in
     let e : (i j : ℕ) → i ≡ j → getD b i 0 ≡ getD b j 0 = λ i j h. ap (λ (x : ℕ). getD b x 0) h in
     let i = a .i in
-    let whole : c .before .window .result + 4294967296 * c .window2 .result ≡ little b i 8 = omega (arith, c .before .window .ensures, c .window2 .ensures, e (i + 4) (i + 1 + 1 + 1 + 1) (omega arith), e (i + 4 + 1) (i + 1 + 1 + 1 + 1 + 1) (omega arith), e (i + 4 + 1 + 1) (i + 1 + 1 + 1 + 1 + 1 + 1) (omega arith), e (i + 4 + 1 + 1 + 1) (i + 1 + 1 + 1 + 1 + 1 + 1 + 1) (omega arith)) in
+    let whole : c .before .get-four .result + 4294967296 * c .get-four2 .result ≡ little b i 8 = omega (arith, c .before .get-four .ensures, c .get-four2 .ensures, e (i + 4) (i + 1 + 1 + 1 + 1) (omega arith), e (i + 4 + 1) (i + 1 + 1 + 1 + 1 + 1) (omega arith), e (i + 4 + 1 + 1) (i + 1 + 1 + 1 + 1 + 1 + 1) (omega arith), e (i + 4 + 1 + 1 + 1) (i + 1 + 1 + 1 + 1 + 1 + 1 + 1) (omega arith)) in
     let off : 8 * i - 8 * i ≡ 0 = omega arith in
     omega (arith, whole, field-window b (λ j. c .before .before .shared-slice-known .given j .fits) (8 * i) 64 i 8 (omega arith) (omega arith), ap (λ (k : ℕ). little b i 8 / 2 ^ k % 2 ^ 64) off)
 

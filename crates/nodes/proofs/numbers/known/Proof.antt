@@ -1,7 +1,7 @@
 -- Both tests together are what `KnownNode` asks.
 use native.Mathlib.Omega.{arith}
 use borrow.Author.Tests.{leb-true, leb-false}
-use Rattle.nodes.proofs.Tables.{says-no}
+use Rattle.tables.proofs.Tables.{says-no}
 use Rattle.nodes.proofs.numbers.known.Statement.{statement}
 use Rattle.nodes.proofs.numbers.known.Tie as tie
 

@@ -3,7 +3,7 @@ use mathlib.Core.Path.{_≡_, sym, _∙_, subst}
 use lib.Pow.{pow-pos}
 use borrow.Author.Needs.{needs}
 use Rattle.sums.specs.Sums.{Right}
-use Rattle.sums.specs.Words.{leafBit, Room}
+use Rattle.words.specs.Words.{leafBit, Room}
 use Rattle.cuts.specs.Cuts.{Cut, GoodCuts}
 use Rattle.panel.specs.Panels.{deepOf, RightLength}
 use Rattle.panel.proofs.Lengths.{fits-room}

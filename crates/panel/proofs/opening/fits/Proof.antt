@@ -5,7 +5,7 @@ use lib.ListN.{length}
 use borrow.Author.Needs.{needs}
 use Prim.Native.Nat.{_-_}
 use Rattle.bits.proofs.Laws.{one-shl}
-use Rattle.nodes.proofs.Tables.{says-no, says-equal}
+use Rattle.tables.proofs.Tables.{says-no, says-equal}
 use Rattle.panel.proofs.opening.fits.Statement.{statement}
 use Rattle.panel.proofs.opening.fits.Tie as tie
 

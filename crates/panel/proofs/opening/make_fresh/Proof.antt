@@ -5,9 +5,9 @@ use native.Mathlib.Omega.{arith}
 use lib.Pow.{pow-pos}
 use borrow.Author.Needs.{needs}
 use Rattle.bits.proofs.Laws.{one-shl}
-use Rattle.sums.specs.Words.{putLeafBit, Room}
+use Rattle.words.specs.Words.{putLeafBit, Room}
 use Rattle.sums.specs.Sums.{Summed}
-use Rattle.sums.proofs.Rooms.{room-same}
+use Rattle.words.proofs.Rooms.{room-same}
 use Rattle.panel.proofs.Freshness.{depth-fits, fresh, half, room}
 use Rattle.panel.proofs.opening.make_fresh.Statement.{statement}
 use Rattle.panel.proofs.opening.make_fresh.Tie as tie

@@ -3,7 +3,7 @@ use mathlib.Core.Path.{refl}
 use mathlib.Core.Logic.{inl, inr}
 use native.Mathlib.Omega.{arith}
 use borrow.Author.Needs.{needs}
-use Rattle.nodes.proofs.Tables.{is-done, is-refused}
+use Rattle.tables.proofs.Tables.{is-done, is-refused}
 use Rattle.panel.proofs.opening.open.Statement.{statement}
 use Rattle.panel.proofs.opening.open.Tie as tie
 

@@ -1,7 +1,7 @@
 -- Past the test of a bad record the kind picks the call, and each call has its own contract.
 use mathlib.Core.Path.{sym}
 use native.Mathlib.Omega.{arith}
-use Rattle.requests.specs.Requests.{Fine}
+use Rattle.records.specs.Records.{Fine}
 use Rattle.requests.specs.Requests.Step.{bad}
 use Rattle.requests.proofs.Answering.{step-call, step-kept}
 use borrow.Author.Needs.{needs}

@@ -9,8 +9,8 @@ use lib.Dec.{T, eqb, ltb, eqb→eq, ltb→lt}
 use lib.ListN.{getD}
 use borrow.Author.Needs.{needs}
 use Rattle.bits.proofs.Laws.{le-or-lt}
-use Rattle.bits.specs.Abreast.{part}
-use Rattle.sums.specs.Rows.{PairSums, Sevens}
+use Rattle.bits.specs.inner.Abreast.{part}
+use Rattle.sums.specs.inner.Rows.{PairSums, Sevens}
 use Rattle.sums.proofs.sevens.seven.Statement.{statement}
 use Rattle.sums.proofs.sevens.seven.Tie as tie
 

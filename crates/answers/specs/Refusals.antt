@@ -1,0 +1,63 @@
+-- The number and the values that "When the scanner says no" gives to each case of an answer. Beside a refusal every other number is 0.
+use Prim.Native.Nat.{ℕ}
+use Rattle.nodes.specs.declared.triples.Triple.{Triple}
+use Rattle.answers.specs.declared.Refusal.{Refusal}
+use Rattle.answers.specs.declared.Refusal.the-variants.{WrongLength, NotGood, NoSuchNode, NotLeaf, AtGreatestDepth, AtDepthOne, LeavesMissing, NoSuchNumber, BadRecord}
+use Rattle.answers.specs.declared.Answer.{Answer}
+use Rattle.answers.specs.declared.Answer.the-variants as answer
+use Rattle.answers.specs.declared.Counted.{Counted}
+use Rattle.answers.specs.declared.Counted.the-variants as counted
+use Rattle.answers.specs.declared.Found.{Found}
+use Rattle.answers.specs.declared.Found.the-variants as found
+use Rattle.answers.specs.declared.Numbered.{Numbered}
+use Rattle.answers.specs.declared.Numbered.the-variants as numbered
+use Rattle.answers.specs.declared.Around.{Around}
+use Rattle.answers.specs.declared.Around.the-variants as around
+use Rattle.nodes.specs.Neighbours.{none}
+
+abbrev pub refusalNumber : Refusal → ℕ
+refusalNumber WrongLength = 1
+refusalNumber NotGood = 2
+refusalNumber NoSuchNode = 3
+refusalNumber NotLeaf = 4
+refusalNumber AtGreatestDepth = 5
+refusalNumber AtDepthOne = 6
+refusalNumber LeavesMissing = 7
+refusalNumber NoSuchNumber = 8
+refusalNumber BadRecord = 9
+
+abbrev pub answerNumber : Answer → ℕ
+answerNumber answer.Done = 0
+answerNumber (answer.No e) = refusalNumber e
+
+abbrev pub countedNumber : Counted → ℕ
+countedNumber (counted.Leaves n) = 0
+countedNumber (counted.No e) = refusalNumber e
+
+abbrev pub countedLeaves : Counted → ℕ
+countedLeaves (counted.Leaves n) = n
+countedLeaves (counted.No e) = 0
+
+abbrev pub foundNumber : Found → ℕ
+foundNumber (found.Leaf k) = 0
+foundNumber (found.No e) = refusalNumber e
+
+abbrev pub foundNode : Found → ℕ
+foundNode (found.Leaf k) = k .0
+foundNode (found.No e) = 0
+
+abbrev pub numberedNumber : Numbered → ℕ
+numberedNumber (numbered.Number i) = 0
+numberedNumber (numbered.No e) = refusalNumber e
+
+abbrev pub numberedLeaf : Numbered → ℕ
+numberedLeaf (numbered.Number i) = i .0
+numberedLeaf (numbered.No e) = 0
+
+abbrev pub aroundNumber : Around → ℕ
+aroundNumber (around.Neighbours t) = 0
+aroundNumber (around.No e) = refusalNumber e
+
+abbrev pub aroundTriple : Around → Triple
+aroundTriple (around.Neighbours t) = t
+aroundTriple (around.No e) = none

@@ -1,0 +1,157 @@
+// What a call may answer, and the customer's number and values of each case.
+use nodes::LeafNumber;
+use nodes::Node;
+use nodes::Triple;
+ghost use mathlib.Core.Path.{_≡_};
+ghost use Rattle.answers.specs.Refusals.{refusalNumber, answerNumber, countedNumber, countedLeaves, foundNumber, foundNode, numberedNumber, numberedLeaf, aroundNumber, aroundTriple};
+
+// Why a call is refused, in the order of the customer's table: its numbers 1 to 9.
+pub enum Refusal {
+    WrongLength,
+    NotGood,
+    NoSuchNode,
+    NotLeaf,
+    AtGreatestDepth,
+    AtDepthOne,
+    LeavesMissing,
+    NoSuchNumber,
+    BadRecord,
+}
+
+impl Refusal {
+    pub fn number(self) -> u32
+        ensures { λ r. ⌜ r ≡ refusalNumber self ⌝ }
+    {
+        match self {
+            Refusal::WrongLength => 1,
+            Refusal::NotGood => 2,
+            Refusal::NoSuchNode => 3,
+            Refusal::NotLeaf => 4,
+            Refusal::AtGreatestDepth => 5,
+            Refusal::AtDepthOne => 6,
+            Refusal::LeavesMissing => 7,
+            Refusal::NoSuchNumber => 8,
+            Refusal::BadRecord => 9,
+        }
+    }
+}
+
+pub enum Answer {
+    Done,
+    No(Refusal),
+}
+
+impl Answer {
+    pub fn number(self) -> u32
+        ensures { λ r. ⌜ r ≡ answerNumber self ⌝ }
+    {
+        match self {
+            Answer::Done => 0,
+            Answer::No(e) => e.number(),
+        }
+    }
+}
+
+pub enum Counted {
+    Leaves(u32),
+    No(Refusal),
+}
+
+impl Counted {
+    pub fn number(self) -> u32
+        ensures { λ r. ⌜ r ≡ countedNumber self ⌝ }
+    {
+        match self {
+            Counted::Leaves(_) => 0,
+            Counted::No(e) => e.number(),
+        }
+    }
+
+    pub fn leaves(self) -> u32
+        ensures { λ r. ⌜ r ≡ countedLeaves self ⌝ }
+    {
+        match self {
+            Counted::Leaves(n) => n,
+            Counted::No(_) => 0,
+        }
+    }
+}
+
+pub enum Found {
+    Leaf(Node),
+    No(Refusal),
+}
+
+impl Found {
+    pub fn number(self) -> u32
+        ensures { λ r. ⌜ r ≡ foundNumber self ⌝ }
+    {
+        match self {
+            Found::Leaf(_) => 0,
+            Found::No(e) => e.number(),
+        }
+    }
+
+    pub fn node(self) -> u32
+        ensures { λ r. ⌜ r ≡ foundNode self ⌝ }
+    {
+        match self {
+            Found::Leaf(k) => k.0,
+            Found::No(_) => 0,
+        }
+    }
+}
+
+pub enum Numbered {
+    Number(LeafNumber),
+    No(Refusal),
+}
+
+impl Numbered {
+    pub fn number(self) -> u32
+        ensures { λ r. ⌜ r ≡ numberedNumber self ⌝ }
+    {
+        match self {
+            Numbered::Number(_) => 0,
+            Numbered::No(e) => e.number(),
+        }
+    }
+
+    pub fn leaf(self) -> u32
+        ensures { λ r. ⌜ r ≡ numberedLeaf self ⌝ }
+    {
+        match self {
+            Numbered::Number(i) => i.0,
+            Numbered::No(_) => 0,
+        }
+    }
+}
+
+pub enum Around {
+    Neighbours(Triple),
+    No(Refusal),
+}
+
+impl Around {
+    pub fn number(self) -> u32
+        ensures { λ r. ⌜ r ≡ aroundNumber self ⌝ }
+    {
+        match self {
+            Around::Neighbours(_) => 0,
+            Around::No(e) => e.number(),
+        }
+    }
+
+    pub fn triple(self) -> Triple
+        ensures { λ r. ⌜ r ≡ aroundTriple self ⌝ }
+    {
+        match self {
+            Around::Neighbours(t) => t,
+            Around::No(_) => Triple {
+                left: 0,
+                right: 0,
+                edge: 0,
+            },
+        }
+    }
+}

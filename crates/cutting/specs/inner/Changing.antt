@@ -1,0 +1,40 @@
+-- What the steps of changing a panel leave. Only this crate's own functions speak of it.
+use mathlib.Core.Path.{_≡_}
+use mathlib.Core.Logic.{_≢_, _⊎_, _↔_}
+use mathlib.Core.List.{List}
+use Prim.Native.Nat.{ℕ}
+use lib.ListN.{length}
+use Rattle.bits.specs.Bits.{bit}
+use Rattle.nodes.specs.Neighbours.{edge}
+use Rattle.words.specs.Words.{word, leafBit, putLeafBit}
+use Rattle.cuts.specs.Cuts.{Cut, Smallest}
+use Rattle.panel.specs.Panels.{deepOf, CutOf}
+use Rattle.cuts.specs.inner.Steps.{CutPlace}
+
+-- ys is xs with the leaf bit that names node n set to v
+pub record CutPut (D : ℕ) (xs : List ℕ) (n v : ℕ) (ys : List ℕ) : Type 0 where
+  pub place : ℕ
+  pub at : CutPlace D n place
+  pub put : ys ≡ putLeafBit D xs place v
+
+-- xs are the bytes of panel s with leaf bits changed, but for the first; its sums may be wrong
+pub record AtWork (s xs : List ℕ) : Type 0 where
+  pub long : length xs ≡ length s
+  pub bit-0 : bit xs 0 ≡ 0
+  pub bit-1 : bit xs 1 ≡ 0
+  pub depth : word (deepOf s) xs 0 ≡ deepOf s
+  pub first : leafBit (deepOf s) xs 0 ≡ 1
+
+-- the cuts of bytes at work on panel s
+abbrev pub CutIn : List ℕ → List ℕ → ℕ → Type 0
+CutIn s xs = Cut (deepOf s) (leafBit (deepOf s) xs)
+
+-- the leaf bits name the smallest good set of cuts that holds every old cut and k's
+pub record SplitBits (s : List ℕ) (k : ℕ) (xs : List ℕ) : Type 0 where
+  pub work : AtWork s xs
+  pub cuts : Smallest (λ n. CutOf s n ⊎ (n ≡ k)) (CutIn s xs)
+
+-- exactly q's cut and, if q has an edge neighbour, that neighbour's cut are taken back
+pub record MergeBits (s : List ℕ) (q : ℕ) (xs : List ℕ) : Type 0 where
+  pub work : AtWork s xs
+  pub cuts : (n : ℕ) → CutIn s xs n ↔ (CutOf s n × (n ≢ q) × (n ≢ edge q))

@@ -1,0 +1,66 @@
+// Changing the cuts of a panel that was judged good, `deep` its depth.
+use cuts::cut_place;
+use cuts::is_cut;
+use nodes::Node;
+ghost use mathlib.Core.Path.{_≡_};
+ghost use Prim.Native.Nat.{_≤_, _<_};
+ghost use Rattle.nodes.specs.Depth.{depthOf};
+ghost use Rattle.words.specs.Words.{Room};
+ghost use Rattle.panel.specs.Panels.{deepOf, Good, LeafOf};
+ghost use Rattle.panel.specs.Calls.{SplitAt, Together, MergeAt};
+ghost use Rattle.cutting.specs.inner.Changing.{CutPut, SplitBits, MergeBits};
+
+// Sets or clears the leaf bit that names n; the sums stay as they are.
+fn put_cut(panel: &mut [u8], deep: usize, n: Node, v: u8)
+    requires { ⌜ Room deep (now panel) × (1 ≤ n .0) × (depthOf (n .0) < deep) × (v < 2) ⌝ }
+    ensures { λ _. ⌜ CutPut deep (now (panel .entry)) (n .0) v (now (panel .exit)) ⌝ }
+{
+    words::put_leaf_bit(panel, deep, cut_place(deep, n), v);
+}
+
+// Cuts leaf k and what its cut forces: the neighbour across the long side, its uncut parent, and so on up.
+fn cut_chain(panel: &mut [u8], deep: usize, k: Node)
+    requires { ⌜ Good (now panel) × (deep ≡ deepOf (now panel)) × LeafOf (now panel) (k .0) × (depthOf (k .0) < deep) ⌝ }
+    ensures { λ _. ⌜ SplitBits (now (panel .entry)) (k .0) (now (panel .exit)) ⌝ }
+{
+    let mut cur = k.0;
+    while !is_cut(panel, deep, Node(cur)) {
+        put_cut(panel, deep, Node(cur), 1);
+        let e = nodes::edge_of(Node(cur));
+        if e == 0 {
+            return;
+        }
+        put_cut(panel, deep, Node(e), 1);
+        cur = e / 2;
+    }
+}
+
+// Takes back the cut of q and, where its edge neighbour is a node, that one's.
+fn take_back(panel: &mut [u8], deep: usize, q: Node)
+    requires { ⌜ Good (now panel) × (deep ≡ deepOf (now panel)) × (2 ≤ q .0) × (depthOf (q .0) < deep) ⌝ }
+    ensures { λ _. ⌜ MergeBits (now (panel .entry)) (q .0) (now (panel .exit)) ⌝ }
+{
+    put_cut(panel, deep, q, 0);
+    let e = nodes::edge_of(q);
+    if e != 0 {
+        put_cut(panel, deep, Node(e), 0);
+    }
+}
+
+// Splits leaf k, which is not at depth D.
+pub fn split_leaf(panel: &mut [u8], deep: usize, k: Node)
+    requires { ⌜ Good (now panel) × (deep ≡ deepOf (now panel)) × LeafOf (now panel) (k .0) × (depthOf (k .0) < deep) ⌝ }
+    ensures { λ _. ⌜ SplitAt (now (panel .entry)) (k .0) (now (panel .exit)) ⌝ }
+{
+    cut_chain(panel, deep, k);
+    making::make_sums(panel, deep);
+}
+
+// Merges leaf k, deeper than 1, where the leaves are there that this needs.
+pub fn merge_leaves(panel: &mut [u8], deep: usize, k: Node)
+    requires { ⌜ Good (now panel) × (deep ≡ deepOf (now panel)) × LeafOf (now panel) (k .0) × (1 < depthOf (k .0)) × Together (now panel) (k .0) ⌝ }
+    ensures { λ _. ⌜ MergeAt (now (panel .entry)) (k .0) (now (panel .exit)) ⌝ }
+{
+    take_back(panel, deep, Node(k.0 / 2));
+    making::make_sums(panel, deep);
+}

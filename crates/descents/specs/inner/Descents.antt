@@ -1,0 +1,28 @@
+-- Where a descent from node 1 stands, and where it stops. Only our own functions speak of it.
+use mathlib.Core.Path.{_≡_}
+use mathlib.Core.Bool.{Bool, true, false}
+use mathlib.Core.List.{List}
+use Prim.Native.Nat.{ℕ, _+_, _-_, _*_, _/_, _^_, _≤_, _<_}
+use Rattle.nodes.specs.Depth.{depthOf}
+use Rattle.words.specs.Words.{start, word}
+use Rattle.panel.specs.Panels.{deepOf, CutOf, LeafOf, numberIn, leafCount}
+
+-- leaf m, of number i, is node n of depth D or an ancestor of it
+pub record OnWay (s : List ℕ) (n m i : ℕ) : Type 0 where
+  pub leaf : LeafOf s m
+  pub number : i ≡ numberIn s m
+  pub over : n / 2 ^ (deepOf s - depthOf m) ≡ m
+
+-- node k is reached, left levels above depth D: its word w starts at bit p
+pub record Spot (s : List ℕ) (left p k w : ℕ) : Type 0 where
+  pub low : 1 ≤ k
+  pub levels : depthOf k + left ≡ deepOf s
+  pub place : p ≡ start (deepOf s) (depthOf k) k
+  pub holds : w ≡ word (deepOf s) s k
+  pub within : numberIn s k + w ≤ leafCount s
+  pub reached : 2 ≤ k → CutOf s (k / 2)
+
+-- r is a where c holds, else b
+pub record Picked (c : Bool) (a b r : ℕ) : Type 0 where
+  pub yes : c ≡ true → r ≡ a
+  pub no : c ≡ false → r ≡ b

@@ -1,0 +1,60 @@
+// Going down from node 1 of a good panel to a leaf. Each step is the last thing that a call does and hands on plain numbers, the panel
+// behind one reference: the compiler makes a loop of it, which needs no stack.
+ghost use mathlib.Core.Path.{_≡_};
+ghost use Prim.Native.Nat.{_+_, _/_, _^_, _<_};
+ghost use Rattle.panel.specs.Panels.{Good, numberIn};
+ghost use Rattle.panel.specs.Calls.{LeafNumbered};
+ghost use Rattle.descents.specs.inner.Descents.{OnWay, Picked, Spot};
+
+// One of two numbers: a where c holds, else b. A step down picks each number of the child so: no jump to guess is left.
+fn pick(c: bool, a: u32, b: u32) -> u32
+    ensures { λ r. ⌜ Picked c a b r ⌝ }
+{
+    if c { a } else { b }
+}
+
+// The leaf that has i leaves left of it below `node`, whose word starts at bit `start`; `left` levels are left to the last.
+// Only the left child's word is read: where it starts follows from the node's, and the right child's word is the rest.
+pub fn leaf_below(panel: &&[u8], left: usize, start: usize, node: u32, word: u32, i: u32) -> u32
+    requires { ⌜ Good (now (now panel)) × Spot (now (now panel)) left start node word × (i < word) ⌝ }
+    ensures { λ r. ⌜ LeafNumbered (now (now (panel .entry))) (numberIn (now (now (panel .entry))) node + i) r ⌝ }
+{
+    if word < 2 {
+        return node;
+    }
+    let first = 2 * (start - node as usize);
+    let l = fields::get_field(*panel, first, left);
+    let in_left = i < l;
+    let at = first + pick(in_left, 0, left as u32) as usize;
+    let child = 2 * node + pick(in_left, 0, 1);
+    let leaves = pick(in_left, l, word - l);
+    let past = pick(in_left, 0, l);
+    leaf_below(panel, left - 1, at, child, leaves, i - past)
+}
+
+// The leaf on the way to n, a node of depth D, and into `number` its number. The way has come to the node `left` levels above n,
+// whose own word starts at bit `start`, with `before` leaves left of it. It reads as `leaf_below` does.
+pub fn leaf_over(
+    panel: &&[u8],
+    left: usize,
+    start: usize,
+    own: u32,
+    before: u32,
+    n: u32,
+    number: &mut u32,
+) -> u32
+    requires { ⌜ Good (now (now panel)) × Spot (now (now panel)) left start (n / 2 ^ left) own × (before ≡ numberIn (now (now panel)) (n / 2 ^ left)) ⌝ }
+    ensures { λ r. ⌜ OnWay (now (now (panel .entry))) n r (now (number .exit)) ⌝ }
+{
+    if own < 2 {
+        *number = before;
+        return n >> left;
+    }
+    let first = 2 * (start - (n >> left) as usize);
+    let l = fields::get_field(*panel, first, left);
+    let to_left = (n >> (left - 1)) % 2 == 0;
+    let at = first + pick(to_left, 0, left as u32) as usize;
+    let leaves = pick(to_left, l, own - l);
+    let past = pick(to_left, 0, l);
+    leaf_over(panel, left - 1, at, leaves, before + past, n, number)
+}

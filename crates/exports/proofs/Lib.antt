@@ -1,2 +1,0 @@
-pub mod SixNumbers
-pub mod LeafParts

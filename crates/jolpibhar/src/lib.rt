@@ -1,0 +1,119 @@
+// The calls for C and Rust: numbers and lent bytes only, the answer's number returned. Each promises what the call behind it does.
+use nodes::LeafNumber;
+use nodes::Node;
+ghost use Rattle.triangles.specs.Calls.{Neighbours, Corners};
+ghost use Rattle.triangles.specs.Corners.{point, triangle};
+ghost use Rattle.panel.specs.Calls.{Open, Judged, Count, LeafAt, NumberOf, Split, Merge};
+ghost use Rattle.jolpibhar.specs.Parts.{LeafBytes};
+
+// The neighbours of a node; 0 is none.
+#[no_mangle]
+pub extern "C" fn node_neighbours(node: u32, left: &mut u32, right: &mut u32, edge: &mut u32) -> u32
+    ensures { λ r. ⌜ Neighbours node r (record { left = now (left .exit); right = now (right .exit); edge = now (edge .exit) }) ⌝ }
+{
+    let around = triangles::neighbours(Node(node));
+    let t = around.triple();
+    *left = t.left;
+    *right = t.right;
+    *edge = t.edge;
+    around.number()
+}
+
+// The corners A, B, C of a node.
+#[no_mangle]
+pub extern "C" fn node_corners(
+    node: u32,
+    ax: &mut u32,
+    ay: &mut u32,
+    bx: &mut u32,
+    by: &mut u32,
+    cx: &mut u32,
+    cy: &mut u32,
+) -> u32
+    ensures { λ r. ⌜ Corners node r (triangle (point (now (ax .exit)) (now (ay .exit))) (point (now (bx .exit)) (now (by .exit))) (point (now (cx .exit)) (now (cy .exit)))) ⌝ }
+{
+    let mut answer: u32 = 0;
+    let t = triangles::corners(Node(node), &mut answer);
+    *ax = t[0][0];
+    *ay = t[0][1];
+    *bx = t[1][0];
+    *by = t[1][1];
+    *cx = t[2][0];
+    *cy = t[2][1];
+    answer
+}
+
+// Opens the panel: writes every byte of it, or refuses with 1 and writes none.
+#[no_mangle]
+pub extern "C" fn panel_open(panel: &mut [u8], depth: u32) -> u32
+    ensures { λ r. ⌜ Open (now (panel .entry)) depth r (now (panel .exit)) ⌝ }
+{
+    panel::open(panel, depth).number()
+}
+
+// Whether the panel is good.
+#[no_mangle]
+pub extern "C" fn panel_judge(panel: &[u8]) -> u32
+    ensures { λ r. ⌜ Judged (now (panel .entry)) r ⌝ }
+{
+    panel::judge(panel).number()
+}
+
+// The number of leaves.
+#[no_mangle]
+pub extern "C" fn panel_count(panel: &[u8], count: &mut u32) -> u32
+    ensures { λ r. ⌜ Count (now (panel .entry)) r (now (count .exit)) ⌝ }
+{
+    let counted = calls::count(panel);
+    *count = counted.leaves();
+    counted.number()
+}
+
+// The node of a leaf number.
+#[no_mangle]
+pub extern "C" fn panel_leaf(panel: &[u8], number: u32, node: &mut u32) -> u32
+    ensures { λ r. ⌜ LeafAt (now (panel .entry)) number r (now (node .exit)) ⌝ }
+{
+    let found = calls::leaf_at(panel, LeafNumber(number));
+    *node = found.node();
+    found.number()
+}
+
+// The leaf number of a node.
+#[no_mangle]
+pub extern "C" fn panel_number(panel: &[u8], node: u32, number: &mut u32) -> u32
+    ensures { λ r. ⌜ NumberOf (now (panel .entry)) node r (now (number .exit)) ⌝ }
+{
+    let numbered = calls::number_of(panel, Node(node));
+    *number = numbered.leaf();
+    numbered.number()
+}
+
+// Which bytes of the panel the leaf bits fill: the place of the first, and how many.
+#[no_mangle]
+pub extern "C" fn panel_leaf_bits(panel: &[u8], start: &mut usize, length: &mut usize) -> u32
+    ensures { λ r. ⌜ LeafBytes (now (panel .entry)) r (record { start = now (start .exit); length = now (length .exit) }) ⌝ }
+{
+    let mut number: u32 = 0;
+    let part = calls::leaf_bits(panel, &mut number);
+    let bytes = part.len();
+    *start = 3 * bytes;
+    *length = bytes;
+    number
+}
+
+// Splits a leaf, or refuses and writes no byte.
+#[no_mangle]
+pub extern "C" fn panel_split(panel: &mut [u8], node: u32) -> u32
+    ensures { λ r. ⌜ Split (now (panel .entry)) node r (now (panel .exit)) ⌝ }
+{
+    calls::split(panel, Node(node)).number()
+}
+
+// Merges a leaf, or refuses and writes no byte.
+#[no_mangle]
+pub extern "C" fn panel_merge(panel: &mut [u8], node: u32) -> u32
+    ensures { λ r. ⌜ Merge (now (panel .entry)) node r (now (panel .exit)) ⌝ }
+{
+    calls::merge(panel, Node(node)).number()
+}

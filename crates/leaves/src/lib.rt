@@ -1,0 +1,72 @@
+// Finding leaves in a panel that was judged good, `deep` its depth. These are no public calls: a caller judges first.
+use descents::leaf_below;
+use descents::leaf_over;
+use nodes::LeafNumber;
+use nodes::Node;
+ghost use mathlib.Core.Path.{_≡_};
+ghost use Prim.Native.Nat.{_≤_, _<_};
+ghost use Rattle.tables.specs.Table.{Says};
+ghost use Rattle.panel.specs.Panels.{deepOf, Good, InRange, LeafOf, leafCount};
+ghost use Rattle.panel.specs.Calls.{LeafNumbered};
+ghost use Rattle.leaves.specs.inner.Ways.{OnFirstWay, Ranged};
+
+// Where a descent stops: at a leaf, and its number.
+pub struct Stop {
+    pub node: Node,
+    pub number: LeafNumber,
+}
+
+// The leaf count: word 1.
+pub fn count(panel: &[u8], deep: usize) -> u32
+    requires { ⌜ Good (now panel) × (deep ≡ deepOf (now panel)) ⌝ }
+    ensures { λ r. ⌜ r ≡ leafCount (now (panel .entry)) ⌝ }
+{
+    words::get_word(panel, deep, 1)
+}
+
+// The leaf of number i, which is below the count: that with i leaves left of it below node 1, whose word starts at bit D + 3.
+pub fn leaf_at(panel: &[u8], deep: usize, i: LeafNumber) -> Node
+    requires { ⌜ Good (now panel) × (deep ≡ deepOf (now panel)) × (i .0 < leafCount (now panel)) ⌝ }
+    ensures { λ r. ⌜ LeafNumbered (now (panel .entry)) (i .0) (r .0) ⌝ }
+{
+    let n = count(panel, deep);
+    Node(leaf_below(&panel, deep, deep + 3, 1, n, i.0))
+}
+
+// Whether k is a node of a panel, by its depth.
+pub fn in_range(deep: usize, k: Node) -> bool
+    requires { ⌜ deep ≤ 17 ⌝ }
+    ensures { λ r. ⌜ Says (Ranged deep (k .0)) r ⌝ }
+{
+    let n = k.0;
+    if n < 2 {
+        return false;
+    }
+    n < 2u32 << deep
+}
+
+// The leaf on the way from node 1 to the first node of depth D below k, and its number: k itself where k is a leaf,
+// the leaf above k where k lies below one.
+pub fn leaf_toward(panel: &[u8], deep: usize, k: Node) -> Stop
+    requires { ⌜ Good (now panel) × (deep ≡ deepOf (now panel)) × InRange (now panel) (k .0) ⌝ }
+    ensures { λ r. ⌜ OnFirstWay (now (panel .entry)) (k .0) (r .node .0) (r .number .0) ⌝ }
+{
+    let d = nodes::depth(k) as usize;
+    let first = k.0 << (deep - d);
+    let n = count(panel, deep);
+    let mut number = 0;
+    let node = leaf_over(&panel, deep, deep + 3, n, 0, first, &mut number);
+    Stop {
+        node: Node(node),
+        number: LeafNumber(number),
+    }
+}
+
+// Whether k is a leaf.
+pub fn is_leaf(panel: &[u8], deep: usize, k: Node) -> bool
+    requires { ⌜ Good (now panel) × (deep ≡ deepOf (now panel)) × InRange (now panel) (k .0) ⌝ }
+    ensures { λ r. ⌜ Says (LeafOf (now (panel .entry)) (k .0)) r ⌝ }
+{
+    let s = leaf_toward(panel, deep, k);
+    s.node.0 == k.0
+}

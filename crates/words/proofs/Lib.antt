@@ -1,0 +1,4 @@
+pub mod Heads
+pub mod Leaves
+pub mod Rooms
+pub mod Slots
