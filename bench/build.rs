@@ -1,4 +1,4 @@
-//! Links the proved archives, which `rt staticlib measures` and `rt staticlib exports` write, and the ordinary version in C, which
+//! Links the proved archives, which `rt staticlib measures` and `rt staticlib jolpibhar` write, and the ordinary version in C, which
 //! it compiles.
 
 use std::path::{Path, PathBuf};
@@ -13,7 +13,7 @@ fn main() {
     let here = PathBuf::from(std::env::var("CARGO_MANIFEST_DIR").expect("cargo sets it"));
     let folder = here.join("../target/staticlib");
     println!("cargo:rustc-link-search=native={}", folder.display());
-    for name in ["measures", "exports"] {
+    for name in ["measures", "jolpibhar"] {
         let archive = folder.join(format!("lib{name}.a"));
         println!("cargo:rerun-if-changed={}", archive.display());
         if !archive.exists() {

@@ -1,4 +1,4 @@
-//! The proved calls. Nothing checks these declarations against the proved source: they are crates/measures' and include/panel.h's.
+//! The proved calls. Nothing checks these declarations against the proved source: they are crates/measures' and include/jolpibhar.h's.
 //! A call of crates/measures trusts its caller: the bytes are a good panel of that depth.
 
 mod raw {

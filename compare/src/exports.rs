@@ -1,4 +1,4 @@
-//! The exported calls. Nothing checks these declarations against the proved source: they are include/panel.h's.
+//! The exported calls. Nothing checks these declarations against the proved source: they are include/jolpibhar.h's.
 //!
 //! Every number that a call is to write is junk before it, so that one it leaves alone shows.
 
@@ -27,7 +27,7 @@ mod raw {
         #[cfg(feature = "reads")]
         pub fn panel_number(panel: *const u8, len: usize, node: u32, number: *mut u32) -> u32;
         #[cfg(feature = "reads")]
-        pub fn panel_leaf_bits(panel: *const u8, len: usize, start: *mut usize, length: *mut usize) -> u32;
+        pub fn panel_leaf_bits(panel: *const u8, len: usize, start: *mut usize, size: *mut usize) -> u32;
         #[cfg(feature = "changes")]
         pub fn panel_split(panel: *mut u8, len: usize, node: u32) -> u32;
         #[cfg(feature = "changes")]
@@ -86,9 +86,9 @@ pub fn number(panel: &[u8], node: u32) -> (u32, u32) {
 
 #[cfg(feature = "reads")]
 pub fn leaf_bits(panel: &[u8]) -> (u32, (usize, usize)) {
-    let [mut start, mut length] = [JUNK as usize; 2];
-    let answer = unsafe { raw::panel_leaf_bits(panel.as_ptr(), panel.len(), &mut start, &mut length) };
-    (answer, (start, length))
+    let [mut start, mut size] = [JUNK as usize; 2];
+    let answer = unsafe { raw::panel_leaf_bits(panel.as_ptr(), panel.len(), &mut start, &mut size) };
+    (answer, (start, size))
 }
 
 #[cfg(feature = "changes")]

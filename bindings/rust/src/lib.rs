@@ -33,7 +33,7 @@
 //! # Ok::<(), Refusal>(())
 //! ```
 //!
-//! To link, run `rt staticlib exports` in the repository first: it proves the calls and writes the archive.
+//! To link, run `rt staticlib jolpibhar` in the repository first: it proves the calls and writes the archive.
 
 mod raw;
 mod refusal;
@@ -134,8 +134,8 @@ impl<B: AsRef<[u8]>> Panel<B> {
     /// The leaf bits: those bytes of the panel themselves. Refused: 1, 2.
     pub fn leaf_bits(&self) -> Result<&[u8], Refusal> {
         let bytes = self.bytes();
-        let (answer, [start, length]) = raw::leaf_bits(bytes);
-        done(answer, &bytes[start..start + length])
+        let (answer, [start, size]) = raw::leaf_bits(bytes);
+        done(answer, &bytes[start..start + size])
     }
 }
 

@@ -1,4 +1,4 @@
-//! The exported calls, as include/panel.h declares them, each behind a function that is safe to call.
+//! The exported calls, as include/jolpibhar.h declares them, each behind a function that is safe to call.
 
 mod exports {
     extern "C" {
@@ -17,7 +17,7 @@ mod exports {
         pub fn panel_count(panel: *const u8, len: usize, count: *mut u32) -> u32;
         pub fn panel_leaf(panel: *const u8, len: usize, number: u32, node: *mut u32) -> u32;
         pub fn panel_number(panel: *const u8, len: usize, node: u32, number: *mut u32) -> u32;
-        pub fn panel_leaf_bits(panel: *const u8, len: usize, start: *mut usize, length: *mut usize) -> u32;
+        pub fn panel_leaf_bits(panel: *const u8, len: usize, start: *mut usize, size: *mut usize) -> u32;
         pub fn panel_split(panel: *mut u8, len: usize, node: u32) -> u32;
         pub fn panel_merge(panel: *mut u8, len: usize, node: u32) -> u32;
     }
@@ -65,9 +65,9 @@ pub fn number(panel: &[u8], node: u32) -> (u32, u32) {
 }
 
 pub fn leaf_bits(panel: &[u8]) -> (u32, [usize; 2]) {
-    let [mut start, mut length] = [0; 2];
-    let answer = unsafe { exports::panel_leaf_bits(panel.as_ptr(), panel.len(), &mut start, &mut length) };
-    (answer, [start, length])
+    let [mut start, mut size] = [0; 2];
+    let answer = unsafe { exports::panel_leaf_bits(panel.as_ptr(), panel.len(), &mut start, &mut size) };
+    (answer, [start, size])
 }
 
 pub fn split(panel: &mut [u8], node: u32) -> u32 {
