@@ -172,7 +172,6 @@ impl<'a> Subject<'a> {
         Ok(panel)
     }
 
-    #[cfg(feature = "changes")]
     fn changing(&mut self, call: &'static str, node: u32, exports: u32, after: &Answer<Panel>) -> Compared {
         let second = after.as_ref().err().copied().unwrap_or(0);
         let bytes = after.as_ref().ok().map(Panel::bytes);
@@ -181,21 +180,15 @@ impl<'a> Subject<'a> {
 
     pub fn split(&mut self, node: u32) -> Result<Answer<Panel>, Difference> {
         let after = self.after(|p| p.split(node));
-        #[cfg(feature = "changes")]
-        {
-            let exports = exports::split(self.frame.lent(), node);
-            self.changing("panel_split", node, exports, &after)?;
-        }
+        let exports = exports::split(self.frame.lent(), node);
+        self.changing("panel_split", node, exports, &after)?;
         Ok(after)
     }
 
     pub fn merge(&mut self, node: u32) -> Result<Answer<Panel>, Difference> {
         let after = self.after(|p| p.merge(node));
-        #[cfg(feature = "changes")]
-        {
-            let exports = exports::merge(self.frame.lent(), node);
-            self.changing("panel_merge", node, exports, &after)?;
-        }
+        let exports = exports::merge(self.frame.lent(), node);
+        self.changing("panel_merge", node, exports, &after)?;
         Ok(after)
     }
 
