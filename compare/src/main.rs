@@ -1,13 +1,15 @@
-//! Holds every exported call and the scanner program against the second program, case by case, and stops at the first difference.
+//! Holds every exported call and the scanner program against the second program, case by case, and both against the known values of
+//! document 01. It stops at the first difference.
 //!
 //!     compare [--seed NUMBER] [--cases NUMBER]
 //!
-//! The same seed and number give the same cases. It prints how many cases it compared, by call and answer, and how many panels by
-//! depth. Exit status: 0 no difference, and every answer of every call was seen; 1 otherwise; 2 wrong arguments.
+//! The same seed and number give the same cases. It prints how many cases it compared, by call and answer, how many panels by
+//! depth, and how many known values. Exit status: 0 no difference, and every answer of every call was seen; 1 otherwise; 2 wrong arguments.
 
 mod damage;
 mod fields;
 mod frame;
+mod known;
 mod nodes;
 mod random;
 mod runs;
@@ -59,6 +61,7 @@ fn arguments() -> Option<Arguments> {
 }
 
 fn compare(tally: &mut Tally, random: &mut Random, cases: usize) -> Compared {
+    known::all(tally)?;
     nodes::all(tally, random, 100 * cases)?;
     fields::all(tally, random)?;
     runs::all(tally, random, cases)?;
