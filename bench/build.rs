@@ -1,5 +1,5 @@
-//! Links the proved archives, which `rt staticlib measures` and `rt staticlib exports` write, and the ordinary version in C, which
-//! it compiles.
+//! Links the proved archive that is for measuring alone, which `rt staticlib measures` writes, and the ordinary version in C, which it
+//! compiles. The exported calls come with the crate `jolpibhar`.
 
 use std::path::{Path, PathBuf};
 use std::process::Command;
@@ -12,17 +12,15 @@ fn run(command: &mut Command) {
 fn main() {
     let here = PathBuf::from(std::env::var("CARGO_MANIFEST_DIR").expect("cargo sets it"));
     let folder = here.join("../target/staticlib");
-    println!("cargo:rustc-link-search=native={}", folder.display());
-    for name in ["measures", "exports"] {
-        let archive = folder.join(format!("lib{name}.a"));
-        println!("cargo:rerun-if-changed={}", archive.display());
-        if !archive.exists() {
-            println!(
-                "cargo:warning=target/staticlib/lib{name}.a is not there: run `rt staticlib {name}` first"
-            );
-        }
-        println!("cargo:rustc-link-lib=static={name}");
+    let archive = folder.join("libmeasures.a");
+    println!("cargo:rerun-if-changed={}", archive.display());
+    if !archive.exists() {
+        println!(
+            "cargo:warning=target/staticlib/libmeasures.a is not there: run `rt staticlib measures` first"
+        );
     }
+    println!("cargo:rustc-link-search=native={}", folder.display());
+    println!("cargo:rustc-link-lib=static=measures");
     compiled_c(&here.join("c/ordinary.c"));
 }
 

@@ -1,5 +1,5 @@
 /* What lies around a few nodes: their neighbours and corners, or why there are none. */
-#include "panel.h"
+#include "jolpibhar.h"
 
 #include <inttypes.h>
 #include <stdio.h>

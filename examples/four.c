@@ -1,5 +1,5 @@
 /* Four requests on one panel, as the scanner program takes and prints them: open 3, split 2, split 8, split 4. */
-#include "panel.h"
+#include "jolpibhar.h"
 
 #include <inttypes.h>
 #include <stdio.h>
@@ -12,7 +12,7 @@ struct request {
 int main(void)
 {
     static const struct request requests[] = {{panel_open, 3}, {panel_split, 2}, {panel_split, 8}, {panel_split, 4}};
-    uint8_t panel[4];
+    uint8_t panel[PANEL_BYTES(3)];
     for (size_t i = 0; i < sizeof requests / sizeof *requests; i++) {
         uint32_t answer = requests[i].call(panel, sizeof panel, requests[i].number);
         printf("%zu %" PRIu32 "\n", i + 1, answer);

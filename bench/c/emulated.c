@@ -4,7 +4,7 @@ typedef unsigned char byte;
 typedef unsigned long size;
 
 extern _Bool measure_all_right(const byte *bytes, size len, size deep);
-extern unsigned measure_judge(const byte *panel, size len);
+extern unsigned panel_judge(const byte *panel, size len);
 extern void measure_make_sums(byte *bytes, size len, size deep);
 extern int atoi(const char *text);
 
@@ -23,12 +23,12 @@ int main(int count, char **words)
     panel[root / 8] |= (byte)(1u << root % 8);
     panel[0] = (byte)(4 * deep);
     measure_make_sums(panel, len, deep);
-    int good = measure_judge(panel, len) == 0;
+    int good = panel_judge(panel, len) == 0;
     for (int i = 0; i < times; i++) {
         if (call == 0)
             good &= measure_all_right(panel, len, deep);
         else if (call == 1)
-            good &= measure_judge(panel, len) == 0;
+            good &= panel_judge(panel, len) == 0;
         else
             measure_make_sums(panel, len, deep);
     }

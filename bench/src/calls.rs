@@ -71,7 +71,7 @@ pub fn make(deep: u32, kind: Kind) {
     let sums = 1 + split.len() + merge.len();
     let (n, i) = (nodes.len(), numbers.len());
     println!("testing all sums|measure_all_right|1|ordinary_sums|{sums}|0.15");
-    println!("the whole judge|measure_judge|1|ordinary_sums|{sums}|0.60");
+    println!("the whole judge|panel_judge|1|ordinary_sums|{sums}|0.60");
     println!("making all sums|measure_make_sums|1|ordinary_sums|{sums}|0.15");
     println!("making all sums (ordinary: by rows)|measure_make_sums|1|ordinary_sums_by_row|1|");
     println!("leaf by number|measure_leaf_at|{i}|ordinary_leaf|{i}|0.90");

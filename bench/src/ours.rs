@@ -1,11 +1,12 @@
-//! The proved calls. Nothing checks these declarations against the proved source: they are crates/measures' and include/panel.h's.
-//! A call of crates/measures trusts its caller: the bytes are a good panel of that depth.
+//! The proved calls: the exported ones, and those of crates/measures, which trust their caller that the bytes are a good panel of that
+//! depth. Nothing checks the declarations of these against the proved source.
+
+use jolpibhar::exports;
 
 mod raw {
     extern "C" {
         pub fn measure_all_right(bytes: *const u8, len: usize, deep: usize) -> bool;
         pub fn measure_make_sums(bytes: *mut u8, len: usize, deep: usize);
-        pub fn measure_judge(panel: *const u8, len: usize) -> u32;
         pub fn measure_edge(node: u32) -> u32;
         pub fn measure_leaf_at(panel: *const u8, len: usize, deep: usize, number: u32) -> u32;
         pub fn measure_leaf_toward(
@@ -17,16 +18,6 @@ mod raw {
         ) -> u32;
         pub fn measure_split(panel: *mut u8, len: usize, deep: usize, node: u32) -> u32;
         pub fn measure_merge(panel: *mut u8, len: usize, deep: usize, node: u32) -> u32;
-        pub fn node_neighbours(node: u32, left: *mut u32, right: *mut u32, edge: *mut u32) -> u32;
-        pub fn node_corners(
-            node: u32,
-            ax: *mut u32,
-            ay: *mut u32,
-            bx: *mut u32,
-            by: *mut u32,
-            cx: *mut u32,
-            cy: *mut u32,
-        ) -> u32;
     }
 }
 
@@ -41,7 +32,7 @@ pub fn make_sums(panel: &mut [u8], deep: u32) {
 }
 
 pub fn judge(panel: &[u8]) -> u32 {
-    unsafe { raw::measure_judge(panel.as_ptr(), panel.len()) }
+    exports::judge(panel)
 }
 
 pub fn edge(node: u32) -> u32 {
@@ -69,13 +60,9 @@ pub fn merge(panel: &mut [u8], deep: u32, node: u32) -> u32 {
 }
 
 pub fn neighbours(node: u32) -> [u32; 3] {
-    let [mut left, mut right, mut edge] = [0; 3];
-    unsafe { raw::node_neighbours(node, &mut left, &mut right, &mut edge) };
-    [left, right, edge]
+    exports::neighbours(node, 0).1
 }
 
 pub fn corners(node: u32) -> [[u32; 2]; 3] {
-    let [[mut ax, mut ay], [mut bx, mut by], [mut cx, mut cy]] = [[0; 2]; 3];
-    unsafe { raw::node_corners(node, &mut ax, &mut ay, &mut bx, &mut by, &mut cx, &mut cy) };
-    [[ax, ay], [bx, by], [cx, cy]]
+    exports::corners(node, 0).1
 }

@@ -1,17 +1,17 @@
-//! Links the proved archive, which `rt staticlib exports` writes.
+//! Links the proved archive, which `rt staticlib jolpibhar` writes.
 
 use std::path::Path;
 
 fn main() {
     let here = std::env::var("CARGO_MANIFEST_DIR").expect("cargo sets it");
     let folder = Path::new(&here).join("../../target/staticlib");
-    let archive = folder.join("libexports.a");
+    let archive = folder.join("libjolpibhar.a");
     println!("cargo:rerun-if-changed={}", archive.display());
     if !archive.exists() {
         println!(
-            "cargo:warning=target/staticlib/libexports.a is not there: run `rt staticlib exports` first"
+            "cargo:warning=target/staticlib/libjolpibhar.a is not there: run `rt staticlib jolpibhar` first"
         );
     }
     println!("cargo:rustc-link-search=native={}", folder.display());
-    println!("cargo:rustc-link-lib=static=exports");
+    println!("cargo:rustc-link-lib=static=jolpibhar");
 }

@@ -1,31 +1,21 @@
-//! Holds every exported call and the scanner program against the second program, case by case, and stops at the first difference.
+//! Holds every exported call and the scanner program against the second program, case by case, and both against the known values of
+//! document 01. It stops at the first difference.
 //!
 //!     compare [--seed NUMBER] [--cases NUMBER]
 //!
-//! The same seed and number give the same cases. It prints how many cases it compared, by call and answer, and how many panels by
-//! depth. Exit status: 0 no difference, and every answer of every call was seen; 1 otherwise; 2 wrong arguments.
+//! The same seed and number give the same cases. It prints how many cases it compared, by call and answer, how many panels by
+//! depth, and how many known values. Exit status: 0 no difference, and every answer of every call was seen; 1 otherwise; 2 wrong arguments.
 
-// What panels need stands idle until their calls are on.
-#![cfg_attr(not(feature = "reads"), allow(dead_code))]
-
-mod exports;
-mod random;
-mod tally;
-
-#[cfg(feature = "reads")]
 mod damage;
-#[cfg(feature = "reads")]
 mod fields;
-#[cfg(feature = "reads")]
 mod frame;
-#[cfg(feature = "nodes")]
+mod known;
 mod nodes;
-#[cfg(feature = "reads")]
+mod random;
 mod runs;
-#[cfg(feature = "scanner")]
 mod scanner;
-#[cfg(feature = "reads")]
 mod subject;
+mod tally;
 
 use std::process::ExitCode;
 
@@ -34,30 +24,22 @@ use tally::{Compared, Difference, Tally};
 
 /// The calls that are compared, and the answers that document 01 gives each.
 pub const CALLS: &[(&str, &[u32])] = &[
-    #[cfg(feature = "nodes")]
     ("node_neighbours", &[0, 3]),
-    #[cfg(feature = "nodes")]
     ("node_corners", &[0, 3]),
-    #[cfg(feature = "reads")]
     ("panel_open", &[0, 1]),
-    #[cfg(feature = "reads")]
     ("panel_judge", &[0, 1, 2]),
-    #[cfg(feature = "reads")]
     ("panel_count", &[0, 1, 2]),
-    #[cfg(feature = "reads")]
     ("panel_leaf", &[0, 1, 2, 8]),
-    #[cfg(feature = "reads")]
     ("panel_number", &[0, 1, 2, 3, 4]),
-    #[cfg(feature = "reads")]
     ("panel_leaf_bits", &[0, 1, 2]),
-    #[cfg(feature = "changes")]
     ("panel_split", &[0, 1, 2, 3, 4, 5]),
-    #[cfg(feature = "changes")]
     ("panel_merge", &[0, 1, 2, 3, 4, 6, 7]),
     // a run's panel is always good, and no request takes a leaf number
-    #[cfg(feature = "scanner")]
     ("scanner", &[0, 1, 3, 4, 5, 6, 7, 9]),
 ];
+
+/// What every number that a call is to write holds before it, so that one it leaves alone shows.
+pub const JUNK: u32 = 0xA5C3_0F69;
 
 /// The seed, and how many random cases of each kind.
 struct Arguments {
@@ -79,17 +61,12 @@ fn arguments() -> Option<Arguments> {
 }
 
 fn compare(tally: &mut Tally, random: &mut Random, cases: usize) -> Compared {
-    #[cfg(feature = "nodes")]
+    known::all(tally)?;
     nodes::all(tally, random, 100 * cases)?;
-    #[cfg(feature = "reads")]
-    {
-        fields::all(tally, random)?;
-        runs::all(tally, random, cases)?;
-        damage::all(tally, random, cases)?;
-    }
-    #[cfg(feature = "scanner")]
-    scanner::all(tally, random, cases)?;
-    Ok(())
+    fields::all(tally, random)?;
+    runs::all(tally, random, cases)?;
+    damage::all(tally, random, cases)?;
+    scanner::all(tally, random, cases)
 }
 
 fn main() -> ExitCode {

@@ -1,16 +1,18 @@
 //! The calls that take no panel: every node to 70,000, those around powers of two, and random ones.
 
+use jolpibhar::exports;
 use second::calls;
 
-use crate::exports;
 use crate::random::Random;
 use crate::tally::{Compared, Tally};
+use crate::JUNK;
 
 fn one(tally: &mut Tally, node: u32) -> Compared {
+    let asked = || format!("node {node}");
     let (answer, around) = calls::neighbours(node);
     let around = (answer, [around.left, around.right, around.edge]);
-    tally.compare("node_neighbours", exports::neighbours(node), around, || format!("node {node}"))?;
-    tally.compare("node_corners", exports::corners(node), calls::corners(node), || format!("node {node}"))
+    tally.compare("node_neighbours", exports::neighbours(node, JUNK), around, asked)?;
+    tally.compare("node_corners", exports::corners(node, JUNK), calls::corners(node), asked)
 }
 
 pub fn all(tally: &mut Tally, random: &mut Random, cases: usize) -> Compared {

@@ -2,15 +2,16 @@
 
 use std::fmt::Debug;
 
+use jolpibhar::exports;
 use second::calls::{self, told};
 use second::panel::{depth_of_length, Panel};
 use second::requests::hex;
 use second::Answer;
 
-use crate::exports;
 use crate::frame::Frame;
 use crate::random::Random;
 use crate::tally::{Compared, Difference, Tally};
+use crate::JUNK;
 
 /// What the calls are asked beside the panel.
 pub struct Asked {
@@ -138,23 +139,23 @@ impl<'a> Subject<'a> {
     }
 
     pub fn count(&mut self) -> Compared {
-        let exports = exports::count(self.frame.lent());
+        let exports = exports::count(self.frame.lent(), JUNK);
         self.reading("panel_count", None, exports, |p| Ok(p.leaves().len() as u32))
     }
 
     pub fn leaf_bits(&mut self) -> Compared {
-        let exports = exports::leaf_bits(self.frame.lent());
+        let exports = exports::leaf_bits(self.frame.lent(), JUNK);
         let bytes = self.frame.original().len();
         self.reading("panel_leaf_bits", None, exports, |_| Ok((bytes / 4 * 3, bytes / 4)))
     }
 
     pub fn leaf(&mut self, number: u32) -> Compared {
-        let exports = exports::leaf(self.frame.lent(), number);
+        let exports = exports::leaf(self.frame.lent(), number, JUNK);
         self.reading("panel_leaf", Some(("number", number)), exports, |p| p.leaf_at(number))
     }
 
     pub fn number(&mut self, node: u32) -> Compared {
-        let exports = exports::number(self.frame.lent(), node);
+        let exports = exports::number(self.frame.lent(), node, JUNK);
         self.reading("panel_number", Some(("node", node)), exports, |p| p.number_of(node))
     }
 
@@ -172,7 +173,6 @@ impl<'a> Subject<'a> {
         Ok(panel)
     }
 
-    #[cfg(feature = "changes")]
     fn changing(&mut self, call: &'static str, node: u32, exports: u32, after: &Answer<Panel>) -> Compared {
         let second = after.as_ref().err().copied().unwrap_or(0);
         let bytes = after.as_ref().ok().map(Panel::bytes);
@@ -181,21 +181,15 @@ impl<'a> Subject<'a> {
 
     pub fn split(&mut self, node: u32) -> Result<Answer<Panel>, Difference> {
         let after = self.after(|p| p.split(node));
-        #[cfg(feature = "changes")]
-        {
-            let exports = exports::split(self.frame.lent(), node);
-            self.changing("panel_split", node, exports, &after)?;
-        }
+        let exports = exports::split(self.frame.lent(), node);
+        self.changing("panel_split", node, exports, &after)?;
         Ok(after)
     }
 
     pub fn merge(&mut self, node: u32) -> Result<Answer<Panel>, Difference> {
         let after = self.after(|p| p.merge(node));
-        #[cfg(feature = "changes")]
-        {
-            let exports = exports::merge(self.frame.lent(), node);
-            self.changing("panel_merge", node, exports, &after)?;
-        }
+        let exports = exports::merge(self.frame.lent(), node);
+        self.changing("panel_merge", node, exports, &after)?;
         Ok(after)
     }
 

@@ -22,6 +22,7 @@ pub struct Tally {
     answers: BTreeMap<(&'static str, u32), u64>,
     depths: BTreeMap<u32, Depth>,
     other_lengths: u64,
+    known: u64,
 }
 
 impl Tally {
@@ -49,6 +50,11 @@ impl Tally {
     /// Counts a case in which both gave this answer.
     pub fn count(&mut self, call: &'static str, answer: u32) {
         *self.answers.entry((call, answer)).or_default() += 1;
+    }
+
+    /// Counts a known value that both gave.
+    pub fn known(&mut self) {
+        self.known += 1;
     }
 
     /// Counts a panel of a right length, with its leaves if it is good, or one of another length.
@@ -88,7 +94,8 @@ impl Tally {
         if self.other_lengths > 0 {
             println!("other lengths: {} panels", self.other_lengths);
         }
-        let all: u64 = self.answers.values().sum();
+        println!("known values: {} cases", self.known);
+        let all = self.known + self.answers.values().sum::<u64>();
         println!("{all} cases compared, no difference");
         complete
     }

@@ -1,4 +1,5 @@
-//! The values that document 01 gives, and its laws where they can be tried on every node.
+//! The values that document 01 gives, and its laws where they can be tried on every node. Those of its known panels that it does not
+//! mark `[M]` are in compare/src/known.rs, which asks both programs.
 
 use std::collections::BTreeSet;
 
@@ -25,10 +26,6 @@ fn leaves(bytes: &[u8]) -> Vec<u32> {
     (0..many).map(|n| leaf_at(bytes, n)).map(|(answer, node)| if answer == 0 { node } else { 0 }).collect()
 }
 
-fn all_cut() -> Vec<u8> {
-    after(opened(3), &[2, 4, 5, 6, 7])
-}
-
 #[test]
 fn panels_of_depth_3() {
     let fresh = opened(3);
@@ -44,10 +41,7 @@ fn panels_of_depth_3() {
 
 #[test]
 fn all_cut_at_depth_3() {
-    let bytes = all_cut();
-    assert_eq!(bytes, [0x0C, 0x92, 0xAA, 0xFF]);
-    assert_eq!(number_of(&bytes, 15), (0, 7));
-    assert_eq!(number_of(&bytes, 16), (3, 0));
+    assert_eq!(after(opened(3), &[2, 4, 5, 6, 7]), [0x0C, 0x92, 0xAA, 0xFF]);
 }
 
 #[test]
@@ -68,29 +62,19 @@ fn merges() {
     assert_eq!(five, before);
     assert_eq!(merge(&mut five, 9), 0);
     assert_eq!(leaves(&five), [4, 5, 6, 7]);
-    assert_eq!(merge(&mut opened(3), 2), 6);
 }
 
 #[test]
 fn refusals() {
     let five = after(opened(3), &[2, 4]);
-    assert_eq!(split(&mut five.clone(), 8), 5);
     assert_eq!(split(&mut five.clone(), 4), 4);
     assert_eq!(split(&mut five.clone(), 16), 3);
     assert_eq!(merge(&mut five.clone(), 1), 3);
-    assert_eq!(leaf_at(&five, 4).0, 0);
-    assert_eq!(leaf_at(&five, 5), (8, 0));
-    for length in [0, 3, 5, 16_384] {
-        assert_eq!(judge(&vec![0; length]), 1);
-        assert_eq!(count(&vec![0; length]), (1, 0));
-        assert_eq!(leaf_bits(&vec![0; length]), (1, (0, 0)));
-    }
     for spare in 0..2 {
         let mut bytes = five.clone();
         bytes[0] += 1 << spare;
         assert_eq!(judge(&bytes), 2);
     }
-    assert_eq!(judge(&[3, 0, 0, 0]), 2);
     for depth in [0, 2, 4, 15, 35] {
         let mut bytes = five.clone();
         assert_eq!(open(&mut bytes, depth), 1);

@@ -33,9 +33,10 @@
 //! # Ok::<(), Refusal>(())
 //! ```
 //!
-//! To link, run `rt staticlib exports` in the repository first: it proves the calls and writes the archive.
+//! To link, run `rt staticlib jolpibhar` in the repository first: it proves the calls and writes the archive.
 
-mod raw;
+#[doc(hidden)]
+pub mod exports;
 mod refusal;
 
 pub use refusal::Refusal;
@@ -62,7 +63,7 @@ pub struct Neighbours {
 impl Node {
     /// The node's neighbours of its own depth. Refused: 3.
     pub fn neighbours(self) -> Result<Neighbours, Refusal> {
-        let (answer, around) = raw::neighbours(self.0);
+        let (answer, around) = exports::neighbours(self.0, 0);
         let [left, right, edge] = around.map(|k| (k != 0).then_some(Node(k)));
         done(answer, Neighbours { left, right, edge })
     }
@@ -70,7 +71,7 @@ impl Node {
     /// The corners A, B, C of the node's triangle, each x and y, in a panel from (0,0) to (256,256). Its long side is A–C.
     /// Refused: 3.
     pub fn corners(self) -> Result<[[u32; 2]; 3], Refusal> {
-        let (answer, corners) = raw::corners(self.0);
+        let (answer, corners) = exports::corners(self.0, 0);
         done(answer, corners)
     }
 }
@@ -110,49 +111,49 @@ impl<B: AsRef<[u8]>> Panel<B> {
 
     /// Whether the panel is good. Refused: 1, 2.
     pub fn judge(&self) -> Result<(), Refusal> {
-        done(raw::judge(self.bytes()), ())
+        done(exports::judge(self.bytes()), ())
     }
 
     /// How many leaves there are. Refused: 1, 2.
     pub fn count(&self) -> Result<u32, Refusal> {
-        let (answer, count) = raw::count(self.bytes());
+        let (answer, count) = exports::count(self.bytes(), 0);
         done(answer, count)
     }
 
     /// The leaf of a number. Refused: 1, 2, 8.
     pub fn leaf_at(&self, number: LeafNumber) -> Result<Node, Refusal> {
-        let (answer, node) = raw::leaf(self.bytes(), number.0);
+        let (answer, node) = exports::leaf(self.bytes(), number.0, 0);
         done(answer, Node(node))
     }
 
     /// The number of a leaf. Refused: 1, 2, 3, 4.
     pub fn number_of(&self, leaf: Node) -> Result<LeafNumber, Refusal> {
-        let (answer, number) = raw::number(self.bytes(), leaf.0);
+        let (answer, number) = exports::number(self.bytes(), leaf.0, 0);
         done(answer, LeafNumber(number))
     }
 
     /// The leaf bits: those bytes of the panel themselves. Refused: 1, 2.
     pub fn leaf_bits(&self) -> Result<&[u8], Refusal> {
         let bytes = self.bytes();
-        let (answer, [start, length]) = raw::leaf_bits(bytes);
-        done(answer, &bytes[start..start + length])
+        let (answer, (start, size)) = exports::leaf_bits(bytes, 0);
+        done(answer, &bytes[start..start + size])
     }
 }
 
 impl<B: AsRef<[u8]> + AsMut<[u8]>> Panel<B> {
     /// Writes every byte: the fresh panel of a depth, with the leaves 2 and 3. Refused: 1, also where the depth doesn't fit the bytes.
     pub fn open(&mut self, depth: u32) -> Result<(), Refusal> {
-        done(raw::open(self.0.as_mut(), depth), ())
+        done(exports::open(self.0.as_mut(), depth), ())
     }
 
     /// Cuts a leaf, and what must be cut with it so that the panel stays good. Refused: 1, 2, 3, 4, 5.
     pub fn split(&mut self, leaf: Node) -> Result<(), Refusal> {
-        done(raw::split(self.0.as_mut(), leaf.0), ())
+        done(exports::split(self.0.as_mut(), leaf.0), ())
     }
 
     /// Takes back the cut that made a leaf, and the one across the long side. Refused: 1, 2, 3, 4, 6, 7.
     pub fn merge(&mut self, leaf: Node) -> Result<(), Refusal> {
-        done(raw::merge(self.0.as_mut(), leaf.0), ())
+        done(exports::merge(self.0.as_mut(), leaf.0), ())
     }
 }
 

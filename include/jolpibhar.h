@@ -6,12 +6,24 @@
  * A panel is lent as a pointer and its length in bytes, `len`. Pointers are not null, also where the length is 0, and
  * no two arguments of one call point to the same place. A call keeps no pointer and writes nothing outside
  * the `len` bytes and the numbers it is asked for.
+ *
+ * Threads: calls share nothing, there is no global state. Calls on different panels may run at the same time; a panel that
+ * a call writes is lent to that one call alone.
+ * Platforms: the archive is for x86-64 Linux. Numbers and bytes are the same on any machine.
  */
-#ifndef PANEL_H
-#define PANEL_H
+#ifndef JOLPIBHAR_H
+#define JOLPIBHAR_H
 
 #include <stddef.h>
 #include <stdint.h>
+
+#define JOLPIBHAR_VERSION_MAJOR 0
+#define JOLPIBHAR_VERSION_MINOR 2
+#define JOLPIBHAR_VERSION_PATCH 0
+#define JOLPIBHAR_VERSION "0.2.0"
+
+/* The bytes of a panel of depth D, 3 to 14. Where D is a constant it is one too: uint8_t panel[PANEL_BYTES(14)]; */
+#define PANEL_BYTES(D) ((size_t)1 << ((D) - 1))
 
 #ifdef __cplusplus
 extern "C" {
@@ -54,7 +66,7 @@ uint32_t panel_leaf(const uint8_t *panel, size_t len, uint32_t number, uint32_t 
 uint32_t panel_number(const uint8_t *panel, size_t len, uint32_t node, uint32_t *number);
 
 /* Which bytes of the panel the leaf bits fill: the place of the first, and how many. Answers 0, 1, 2. */
-uint32_t panel_leaf_bits(const uint8_t *panel, size_t len, size_t *start, size_t *length);
+uint32_t panel_leaf_bits(const uint8_t *panel, size_t len, size_t *start, size_t *size);
 
 /* ---- calls that change a panel */
 

@@ -1,0 +1,132 @@
+//! The values of document 01's section "Known panels" that it does not mark `[M]`, in its order. Each is asked of the second program and
+//! of the exported calls, and both must answer what stands here: the two agreeing is not enough.
+
+use jolpibhar::exports;
+use second::calls;
+use second::panel::with_right_sums;
+use second::requests::hex;
+
+use crate::tally::{Compared, Difference, Tally};
+use crate::JUNK;
+
+/// A call, and what it is asked beside the panel.
+#[derive(Clone, Copy, Debug)]
+enum Call {
+    Open(u32),
+    Judge,
+    Count,
+    LeafAt(u32),
+    NumberOf(u32),
+    LeafBits,
+    Split(u32),
+    Merge(u32),
+}
+use Call::*;
+
+/// The answer's number, and the numbers handed out beside it, 0 where a call has none.
+type Told = (u32, [usize; 2]);
+
+/// The second program or the exported calls.
+type Side = fn(Call, &mut [u8]) -> Told;
+
+/// What 01 says; the panels and the calls that it says it of, each call on each panel; what they answer.
+type Known = (&'static str, &'static [&'static [u8]], &'static [Call], Told);
+
+// Panels of depth 3, by the bytes that 01 gives: leaves 2, 3; leaves 8, 9, 5, 6, 7; all cut.
+const FRESH: &[u8] = &[0x8C, 0x24, 0x11, 0x11];
+const FIVE: &[u8] = &[0x4C, 0x4D, 0x56, 0x57];
+const ALL_CUT: &[u8] = &[0x0C, 0x92, 0xAA, 0xFF];
+
+// Bits 0 and 1 alone, read either way: of the whole panel, or of the leaf bits with right sums.
+const BITS: &[u8] = &[0x03, 0x00, 0x00, 0x00];
+const LEAF_BITS: &[u8] = &[0x8C, 0x08, 0x02, 0x03];
+
+const LENGTHS: &[&[u8]] = &[&[], &[0; 3], &[0; 5], &[0; 16_384]];
+
+/// The calls that judge the panel they are lent; open is the only other one.
+const JUDGING: &[Call] = &[Judge, Count, LeafAt(0), NumberOf(2), LeafBits, Split(2), Merge(2)];
+
+const KNOWN: &[Known] = &[
+    ("split 8 at D = 3 where 8 is a leaf: 5", &[FIVE, ALL_CUT], &[Split(8)], (5, [0, 0])),
+    ("merge 2 on a fresh panel: 6", &[FRESH], &[Merge(2)], (6, [0, 0])),
+    ("all cut at D = 3, the number of leaf 15 is 7", &[ALL_CUT], &[NumberOf(15)], (0, [7, 0])),
+    ("all cut at D = 3, node 16 answers 3", &[ALL_CUT], &[NumberOf(16), Split(16), Merge(16)], (3, [0, 0])),
+    ("leaf number 4 of five is a leaf", &[FIVE], &[LeafAt(4)], (0, [7, 0])),
+    ("leaf number 5 of five answers 8", &[FIVE], &[LeafAt(5)], (8, [0, 0])),
+    ("lengths 0, 3, 5 and 16,384 answer 1", LENGTHS, JUDGING, (1, [0, 0])),
+    ("lengths 0, 3, 5 and 16,384 answer 1", LENGTHS, &[Open(3), Open(15)], (1, [0, 0])),
+    ("bits 0 and 1 alone at D = 3 answer 2", &[BITS, LEAF_BITS], JUDGING, (2, [0, 0])),
+];
+
+fn alone(answer: u32) -> Told {
+    (answer, [0, 0])
+}
+
+fn with((answer, number): (u32, u32)) -> Told {
+    (answer, [number as usize, 0])
+}
+
+fn with_part((answer, (start, size)): (u32, (usize, usize))) -> Told {
+    (answer, [start, size])
+}
+
+fn by_second(call: Call, panel: &mut [u8]) -> Told {
+    match call {
+        Open(depth) => alone(calls::open(panel, depth)),
+        Judge => alone(calls::judge(panel)),
+        Count => with(calls::count(panel)),
+        LeafAt(number) => with(calls::leaf_at(panel, number)),
+        NumberOf(node) => with(calls::number_of(panel, node)),
+        LeafBits => with_part(calls::leaf_bits(panel)),
+        Split(node) => alone(calls::split(panel, node)),
+        Merge(node) => alone(calls::merge(panel, node)),
+    }
+}
+
+fn by_exports(call: Call, panel: &mut [u8]) -> Told {
+    match call {
+        Open(depth) => alone(exports::open(panel, depth)),
+        Judge => alone(exports::judge(panel)),
+        Count => with(exports::count(panel, JUNK)),
+        LeafAt(number) => with(exports::leaf(panel, number, JUNK)),
+        NumberOf(node) => with(exports::number(panel, node, JUNK)),
+        LeafBits => with_part(exports::leaf_bits(panel, JUNK)),
+        Split(node) => alone(exports::split(panel, node)),
+        Merge(node) => alone(exports::merge(panel, node)),
+    }
+}
+
+/// Both sides tell what is known, and leave the panel as it is: no known value here is of a call that changes it.
+fn one(says: &str, panel: &[u8], call: Call, known: Told) -> Compared {
+    let sides: [(&str, Side); 2] = [("second", by_second), ("exports", by_exports)];
+    for (side, ask) in sides {
+        let mut lent = panel.to_vec();
+        let told = ask(call, &mut lent);
+        if told != known || lent != panel {
+            let line = |(answer, [one, other]): Told| format!("answer {answer} with {one}, {other}");
+            let bytes = if lent == panel { "" } else { ", and other bytes" };
+            return Err(Difference(format!(
+                "01 says: {says}\n  asked: {call:?}, panel of {} bytes: {}\n  {side}: {}{bytes}\n  known: {}",
+                panel.len(),
+                hex(panel),
+                line(told),
+                line(known)
+            )));
+        }
+    }
+    Ok(())
+}
+
+pub fn all(tally: &mut Tally) -> Compared {
+    let leaf_bits: Vec<bool> = (0..8).map(|place| place < 2).collect();
+    assert_eq!(with_right_sums(3, &leaf_bits), LEAF_BITS);
+    for (says, panels, calls, known) in KNOWN {
+        for panel in *panels {
+            for call in *calls {
+                one(says, panel, *call, *known)?;
+                tally.known();
+            }
+        }
+    }
+    Ok(())
+}
