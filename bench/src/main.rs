@@ -1,6 +1,6 @@
 //! Measures the proved calls beside ordinary Rust and C versions of the paper's algorithms. `bench/run` builds and runs all of it.
 //!
-//!     bench ratios [--quick]    the tables of times and ratios; both sides are checked to compute the same
+//!     bench ratios [--quick]    the table of docs/SPEED.md, then those of times and ratios; both sides are checked to compute the same
 //!     bench growth [--quick]    judging and making sums, in nanoseconds a byte, from depth 3 to 14
 //!     bench scanner [--quick]   the scanner on 4,096 records beside two other programs
 //!     bench calls KIND DEPTH    the calls whose instructions bench/counts counts; KIND is fresh, adaptive or full
