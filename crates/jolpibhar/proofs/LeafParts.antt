@@ -39,7 +39,7 @@ part-short s n t o = go (ℕ-discrete n 0)
     go (yes z) = omega (arith, ap length (o .done z), quarter s (fine s n z (o .answer)))
     go (no h) = omega (arith, ap length (o .refused h))
 
-pub part-told : (s : List ℕ) (n : ℕ) (t : List ℕ) → LeafBits s n t → LeafBytes s n (record { start = 3 * length t; length = length t })
+pub part-told : (s : List ℕ) (n : ℕ) (t : List ℕ) → LeafBits s n t → LeafBytes s n (record { start = 3 * length t; size = length t })
 part-told s n t o =
     record {
       answer = o .answer;
@@ -48,15 +48,15 @@ part-told s n t o =
     }
   where
     told : ℕ → Part
-    told x = record { start = 3 * x; length = x }
+    told x = record { start = 3 * x; size = x }
 
 -- what the numbers name is what `leaf_bits` hands out
-pub told-part : (s : List ℕ) (n : ℕ) (p : Part) → LeafBytes s n p → LeafBits s n (take (p .length) (drop (p .start) s))
+pub told-part : (s : List ℕ) (n : ℕ) (p : Part) → LeafBytes s n p → LeafBits s n (take (p .size) (drop (p .start) s))
 told-part s n p o =
     record {
       answer = o .answer;
-      done = λ z. ap (λ (q : Part). take (q .length) (drop (q .start) s)) (o .done z);
-      refused = λ h. ap (λ (q : Part). take (q .length) (drop (q .start) s)) (o .refused h);
+      done = λ z. ap (λ (q : Part). take (q .size) (drop (q .start) s)) (o .done z);
+      refused = λ h. ap (λ (q : Part). take (q .size) (drop (q .start) s)) (o .refused h);
     }
 
 pub leaf-bytes-one : (s : List ℕ) (n m : ℕ) (p q : Part) → LeafBytes s n p → LeafBytes s m q → (n ≡ m) × (p ≡ q)

@@ -9,14 +9,14 @@ use Rattle.panel.specs.Calls.{panelRows}
 -- the place of its first byte, and how many bytes it has
 pub record Part : Type 0 where
   pub start : ℕ
-  pub length : ℕ
+  pub size : ℕ
 
 abbrev pub noPart : Part
-noPart = record { start = 0; length = 0 }
+noPart = record { start = 0; size = 0 }
 
--- the bytes that the leaf bits fill: `take length (drop start s)` is `leafPart s`
+-- the bytes that the leaf bits fill: `take size (drop start s)` is `leafPart s`
 abbrev pub leafPlace : List ℕ → Part
-leafPlace s = record { start = 3 * 2 ^ (deepOf s - 3); length = 2 ^ (deepOf s - 3) }
+leafPlace s = record { start = 3 * 2 ^ (deepOf s - 3); size = 2 ^ (deepOf s - 3) }
 
 -- `panel_leaf_bits` of panel s answers n, with the part p
 abbrev pub LeafBytes : List ℕ → ℕ → Part → Type 0

@@ -91,14 +91,14 @@ pub extern "C" fn panel_number(panel: &[u8], node: u32, number: &mut u32) -> u32
 
 // Which bytes of the panel the leaf bits fill: the place of the first, and how many.
 #[no_mangle]
-pub extern "C" fn panel_leaf_bits(panel: &[u8], start: &mut usize, length: &mut usize) -> u32
-    ensures { λ r. ⌜ LeafBytes (now (panel .entry)) r (record { start = now (start .exit); length = now (length .exit) }) ⌝ }
+pub extern "C" fn panel_leaf_bits(panel: &[u8], start: &mut usize, size: &mut usize) -> u32
+    ensures { λ r. ⌜ LeafBytes (now (panel .entry)) r (record { start = now (start .exit); size = now (size .exit) }) ⌝ }
 {
     let mut number: u32 = 0;
     let part = calls::leaf_bits(panel, &mut number);
     let bytes = part.len();
     *start = 3 * bytes;
-    *length = bytes;
+    *size = bytes;
     number
 }
 

@@ -8,7 +8,7 @@ ghost use Rattle.tables.specs.Table.{Says};
 ghost use Rattle.words.specs.Words.{Room};
 ghost use Rattle.sums.specs.Sums.{Right, Summed};
 ghost use Rattle.panel.specs.Panels.{deepOf, Good, InRange, leafCount};
-ghost use Rattle.panel.specs.Calls.{Judged, LeafNumbered, Split, Merge};
+ghost use Rattle.panel.specs.Calls.{LeafNumbered, Split, Merge};
 ghost use Rattle.leaves.specs.inner.Ways.{OnFirstWay};
 
 #[no_mangle]
@@ -25,13 +25,6 @@ pub extern "C" fn measure_make_sums(bytes: &mut [u8], deep: usize)
     ensures { λ _. ⌜ Summed deep (now (bytes .entry)) (now (bytes .exit)) ⌝ }
 {
     making::make_sums(bytes, deep);
-}
-
-#[no_mangle]
-pub extern "C" fn measure_judge(panel: &[u8]) -> u32
-    ensures { λ r. ⌜ Judged (now (panel .entry)) r ⌝ }
-{
-    panel::judging::judge(panel).number()
 }
 
 #[no_mangle]
