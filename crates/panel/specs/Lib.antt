@@ -1,3 +1,3 @@
-pub mod Calls
 pub mod Panels
+pub mod Calls
 pub mod inner

@@ -1,3 +1,3 @@
-pub mod Rank
 pub mod Sums
+pub mod Rank
 pub mod inner

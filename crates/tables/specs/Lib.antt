@@ -1,2 +1,2 @@
-pub mod Exactly
 pub mod Table
+pub mod Exactly

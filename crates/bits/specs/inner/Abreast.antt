@@ -1,4 +1,4 @@
--- Words side by side in one number. Only our own crates' inner functions speak of it.
+-- Words side by side in one number.
 use mathlib.Core.Path.{_≡_}
 use Prim.Native.Nat.{ℕ, zero, suc, _+_, _-_, _*_, _/_, _%_, _^_, _≤_, _<_}
 

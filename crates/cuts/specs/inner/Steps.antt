@@ -1,7 +1,7 @@
--- What the steps of reading and judging cuts say. Only our own crates' inner functions speak of it.
+-- What the steps of reading and judging cuts say.
 use mathlib.Core.Path.{_≡_}
-use mathlib.Core.Logic.{_≢_, _↔_}
-use Prim.Native.Nat.{ℕ, _+_, _-_, _*_, _/_, _^_, _≤_, _<_}
+use mathlib.Core.Logic.{_≢_}
+use Prim.Native.Nat.{ℕ, _+_, _/_, _^_, _≤_, _<_}
 use Rattle.nodes.specs.Neighbours.{edge}
 use Rattle.cuts.specs.Cuts.{Cut, named}
 

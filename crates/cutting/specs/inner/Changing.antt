@@ -1,4 +1,4 @@
--- What the steps of changing a panel leave. Only this crate's own functions speak of it.
+-- What the steps of changing a panel leave.
 use mathlib.Core.Path.{_≡_}
 use mathlib.Core.Logic.{_≢_, _⊎_, _↔_}
 use mathlib.Core.List.{List}

@@ -1,8 +1,8 @@
--- Where a descent from node 1 stands, and where it stops. Only our own functions speak of it.
+-- Where a descent from node 1 stands, and where it stops.
 use mathlib.Core.Path.{_≡_}
 use mathlib.Core.Bool.{Bool, true, false}
 use mathlib.Core.List.{List}
-use Prim.Native.Nat.{ℕ, _+_, _-_, _*_, _/_, _^_, _≤_, _<_}
+use Prim.Native.Nat.{ℕ, _+_, _-_, _/_, _^_, _≤_}
 use Rattle.nodes.specs.Depth.{depthOf}
 use Rattle.words.specs.Words.{start, word}
 use Rattle.panel.specs.Panels.{deepOf, CutOf, LeafOf, numberIn, leafCount}

@@ -1,4 +1,4 @@
--- Where the way to a node stops. Only our own functions speak of it.
+-- Where the way to a node stops.
 use mathlib.Core.Path.{_≡_}
 use mathlib.Core.List.{List}
 use Prim.Native.Nat.{ℕ, _+_, _-_, _*_, _/_, _^_, _≤_, _<_}

@@ -1,4 +1,4 @@
--- What the parts of a judgement say. Only this crate's own functions speak of it.
+-- What the parts of a judgement say.
 use mathlib.Core.Path.{_≡_}
 use mathlib.Core.Logic.{_≢_}
 use mathlib.Core.List.{List}

@@ -1,4 +1,4 @@
--- What the steps of opening a panel leave. Only this crate's own functions speak of it.
+-- What the steps of opening a panel leave.
 use mathlib.Core.Path.{_≡_}
 use mathlib.Core.List.{List}
 use Prim.Native.Nat.{ℕ}

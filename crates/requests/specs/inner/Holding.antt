@@ -1,4 +1,4 @@
--- What a run keeps true of the lent buffer. Only our own functions speak of it.
+-- What a run keeps true of the lent buffer.
 use mathlib.Core.Path.{_≡_}
 use mathlib.Core.Logic.{_≢_}
 use mathlib.Core.List.{List}

@@ -1,4 +1,4 @@
--- Rows of words, for the private functions of `testing` and `making`: no contract of a public function speaks of what stands here.
+-- Rows of words, and the sums over eight and over 64 leaf bits.
 use mathlib.Core.Path.{_≡_}
 use mathlib.Core.Logic.{_⊎_}
 use mathlib.Core.List.{List}
