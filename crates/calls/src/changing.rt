@@ -1,8 +1,8 @@
 // The calls that change a lent panel. Each judges it first.
 use answers::Answer;
 use nodes::Node;
-use panel::judging::depth_of;
-use panel::judging::judge;
+use panel::judging::Judgement;
+use panel::judging::good_depth;
 ghost use Rattle.answers.specs.Refusals.{answerNumber};
 ghost use Rattle.panel.specs.Calls.{Split, Merge};
 
@@ -10,22 +10,20 @@ ghost use Rattle.panel.specs.Calls.{Split, Merge};
 pub fn split(panel: &mut [u8], k: Node) -> Answer
     ensures { λ r. ⌜ Split (now (panel .entry)) (k .0) (answerNumber r) (now (panel .exit)) ⌝ }
 {
-    let a = judge(panel);
-    if let Answer::No(e) = a {
-        return Answer::No(e);
+    let j = good_depth(panel);
+    match j {
+        Judgement::Good(deep) => changes::split(panel, deep, k),
+        Judgement::No(e) => Answer::No(e),
     }
-    let deep = depth_of(panel);
-    changes::split(panel, deep, k)
 }
 
 // Merges leaf k: 0, or refusal 1, 2, 3, 4, 6 or 7 and no byte written.
 pub fn merge(panel: &mut [u8], k: Node) -> Answer
     ensures { λ r. ⌜ Merge (now (panel .entry)) (k .0) (answerNumber r) (now (panel .exit)) ⌝ }
 {
-    let a = judge(panel);
-    if let Answer::No(e) = a {
-        return Answer::No(e);
+    let j = good_depth(panel);
+    match j {
+        Judgement::Good(deep) => changes::merge(panel, deep, k),
+        Judgement::No(e) => Answer::No(e),
     }
-    let deep = depth_of(panel);
-    changes::merge(panel, deep, k)
 }

@@ -1,10 +1,11 @@
 // Splitting and merging in a panel that was judged good, `deep` its depth. These are no public calls: a caller judges first.
 use answers::Answer;
+use answers::Numbered;
 use answers::Refusal;
 use cutting::merge_leaves;
 use cutting::split_leaf;
-use leaves::in_range;
 use leaves::is_leaf;
+use leaves::number_of;
 use nodes::Node;
 ghost use mathlib.Core.Path.{_≡_};
 ghost use Prim.Native.Nat.{_<_};
@@ -19,11 +20,9 @@ pub fn split(panel: &mut [u8], deep: usize, k: Node) -> Answer
     requires { ⌜ Good (now panel) × (deep ≡ deepOf (now panel)) ⌝ }
     ensures { λ r. ⌜ Split (now (panel .entry)) (k .0) (answerNumber r) (now (panel .exit)) ⌝ }
 {
-    if !in_range(deep, k) {
-        return Answer::No(Refusal::NoSuchNode);
-    }
-    if !is_leaf(panel, deep, k) {
-        return Answer::No(Refusal::NotLeaf);
+    let number = number_of(panel, deep, k);
+    if let Numbered::No(e) = number {
+        return Answer::No(e);
     }
     if nodes::depth(k) as usize >= deep {
         return Answer::No(Refusal::AtGreatestDepth);
@@ -56,11 +55,9 @@ pub fn merge(panel: &mut [u8], deep: usize, k: Node) -> Answer
     requires { ⌜ Good (now panel) × (deep ≡ deepOf (now panel)) ⌝ }
     ensures { λ r. ⌜ Merge (now (panel .entry)) (k .0) (answerNumber r) (now (panel .exit)) ⌝ }
 {
-    if !in_range(deep, k) {
-        return Answer::No(Refusal::NoSuchNode);
-    }
-    if !is_leaf(panel, deep, k) {
-        return Answer::No(Refusal::NotLeaf);
+    let number = number_of(panel, deep, k);
+    if let Numbered::No(e) = number {
+        return Answer::No(e);
     }
     if nodes::depth(k) <= 1 {
         return Answer::No(Refusal::AtDepthOne);

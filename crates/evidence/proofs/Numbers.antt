@@ -8,7 +8,7 @@ use Rattle.tables.proofs.Tables.{is-done}
 use Rattle.cuts.specs.Cuts.{placeOf}
 use Rattle.panel.specs.Panels.{deepOf, Good, LeafOf, numberIn, leafCount}
 use Rattle.panel.specs.Calls.{LeafNumbered, LeafAt, NumberOf}
-use Rattle.panel.proofs.GoodPanels.{leaf-in-range, number-lt, number-leaf, number-once, number-order}
+use Rattle.panel.proofs.GoodPanels.{number-lt, number-leaf, number-once, number-order}
 use Rattle.panel.proofs.LeafRows.{is-leaf, is-number, good-past, leaf-past}
 
 -- numbers 0 to count - 1, and no others, name every leaf once, left to right
@@ -26,7 +26,7 @@ pub number-of-leaf-at : (s : List ℕ) (i k : ℕ) → LeafAt s i 0 k → Number
 number-of-leaf-at s i k x =
     let g = good-past (unless 8 (i < leafCount s) ∷ []) (x .answer) .0 in
     let l = x .done refl in
-    is-done (is-leaf [] g (leaf-in-range s g k (l .leaf)) (l .leaf) refl) (sym (l .number))
+    is-done (is-leaf g [] (l .leaf) refl) (sym (l .number))
 
 -- .. and leaf_at undoes number_of
 pub leaf-at-number-of : (s : List ℕ) (k i : ℕ) → NumberOf s k 0 i → LeafAt s i 0 k

@@ -13,7 +13,7 @@ use Rattle.tables.proofs.Tables.{answers-one, is-done}
 use Rattle.cuts.specs.Cuts.{CoverOnce}
 use Rattle.panel.specs.Panels.{deepOf, CutOf, Good, LeafOf, leafCount}
 use Rattle.panel.specs.Calls.{leafRows, Open, SplitAt, Split, Together, MergeAt, Merge}
-use Rattle.panel.proofs.GoodPanels.{covers, leaf-in-range}
+use Rattle.panel.proofs.GoodPanels.{covers}
 use Rattle.panel.proofs.LeafRows.{is-leaf, leaf-past, row-past}
 use Rattle.evidence.proofs.Growth as growth
 use Rattle.panel.proofs.Once.{split-one}
@@ -89,7 +89,7 @@ back-answers {s} {k} {t} o n u p =
     let l = split-leaf (d .good) (d .leaf) (d .made) in
     let rows : List Row = unless 6 (1 < depthOf (2 * k)) ∷ unless 7 (Together t (2 * k)) ∷ [] in
     answers-one (leafRows t (2 * k) ++ rows) n 0 (p .answer)
-    (is-leaf rows (d .made .good) (leaf-in-range t (d .made .good) (2 * k) l) l
+    (is-leaf (d .made .good) rows l
     (inr (split-deep (d .good) (d .leaf) (d .made), inr (split-together (d .good) (d .leaf) (d .made), refl))))
 
 -- and restores the old bytes exactly when k's edge neighbour is none or was a leaf
@@ -114,6 +114,6 @@ again-restores {s} {k} {t} bs o n u bu p =
     let l = merge-leaf (d .good) (d .leaf) (d .deep) (d .together) (d .made) in
     split-one t (k / 2) n 0 u s bu bs p
     (is-done
-    (is-leaf (unless 5 (depthOf (k / 2) < deepOf t) ∷ []) (d .made .good) (leaf-in-range t (d .made .good) (k / 2) l) l
+    (is-leaf (d .made .good) (unless 5 (depthOf (k / 2) < deepOf t) ∷ []) l
     (inr (merge-deep (d .good) (d .leaf) (d .deep) (d .together) (d .made), refl)))
     (merge-split (d .good) (d .leaf) (d .deep) (d .together) (d .made)))

@@ -1,4 +1,6 @@
 // Finding leaves in a panel that was judged good, `deep` its depth. These are no public calls: a caller judges first.
+use answers::Numbered;
+use answers::Refusal;
 use descents::leaf_below;
 use descents::leaf_over;
 use nodes::LeafNumber;
@@ -6,8 +8,9 @@ use nodes::Node;
 ghost use mathlib.Core.Path.{_≡_};
 ghost use Prim.Native.Nat.{_≤_, _<_};
 ghost use Rattle.tables.specs.Table.{Says};
+ghost use Rattle.answers.specs.Refusals.{numberedNumber, numberedLeaf};
 ghost use Rattle.panel.specs.Panels.{deepOf, Good, InRange, LeafOf, leafCount};
-ghost use Rattle.panel.specs.Calls.{LeafNumbered};
+ghost use Rattle.panel.specs.Calls.{LeafNumbered, NumberOf};
 ghost use Rattle.leaves.specs.inner.Ways.{OnFirstWay, Ranged};
 
 // Where a descent stops: at a leaf, and its number.
@@ -34,7 +37,7 @@ pub fn leaf_at(panel: &[u8], deep: usize, i: LeafNumber) -> Node
 }
 
 // Whether k is a node of a panel, by its depth.
-pub fn in_range(deep: usize, k: Node) -> bool
+fn in_range(deep: usize, k: Node) -> bool
     requires { ⌜ deep ≤ 17 ⌝ }
     ensures { λ r. ⌜ Says (Ranged deep (k .0)) r ⌝ }
 {
@@ -69,4 +72,20 @@ pub fn is_leaf(panel: &[u8], deep: usize, k: Node) -> bool
 {
     let s = leaf_toward(panel, deep, k);
     s.node.0 == k.0
+}
+
+// The number of leaf k, or refusal 3 or 4.
+pub fn number_of(panel: &[u8], deep: usize, k: Node) -> Numbered
+    requires { ⌜ Good (now panel) × (deep ≡ deepOf (now panel)) ⌝ }
+    ensures { λ r. ⌜ NumberOf (now (panel .entry)) (k .0) (numberedNumber r) (numberedLeaf r) ⌝ }
+{
+    if !in_range(deep, k) {
+        return Numbered::No(Refusal::NoSuchNode);
+    }
+    let stop = leaf_toward(panel, deep, k);
+    if stop.node.0 != k.0 {
+        return Numbered::No(Refusal::NotLeaf);
+    }
+    let number = stop.number;
+    Numbered::Number(number)
 }

@@ -1,31 +1,50 @@
--- What a call knows of the panel once it has judged it: a refusal is the call's own, and past it the panel is good and its depth known.
-use mathlib.Core.Path.{_≡_, subst}
+-- How a call goes on from what it begins with, a judgement or the number of a leaf: a refusal is the call's own, and past it the rows have passed.
+use mathlib.Core.Path.{_≡_, refl, subst}
 use mathlib.Core.List.{List, [], _++_}
 use Prim.Native.Nat.{ℕ}
-use native.Mathlib.Decide.{ℕ-discrete}
-use Rattle.answers.specs.declared.Answer.{Answer}
-use Rattle.answers.specs.declared.Answer.the-variants.{Done, No}
+use Rattle.nodes.specs.declared.numbers.LeafNumber.{LeafNumber}
 use Rattle.answers.specs.declared.Refusal.{Refusal}
-use Rattle.answers.specs.Refusals.{refusalNumber, answerNumber}
-use Rattle.tables.specs.Table.{Row, Outcome}
+use Rattle.answers.specs.declared.Numbered.{Numbered}
+use Rattle.answers.specs.declared.Numbered.the-variants as numbered
+use Rattle.answers.specs.Refusals.{refusalNumber, numberedNumber, numberedLeaf}
+use Rattle.tables.specs.Table.{Row, Answers, Outcome}
 use Rattle.answers.proofs.Refusing.{refusal-pos}
 use Rattle.tables.proofs.Tables.{is-refused, refused-more}
-use Rattle.panel.specs.Panels.{deepOf, Good}
-use Rattle.panel.specs.Calls.{panelRows, Judged}
-use Rattle.panel.specs.inner.Judging.{Deep}
-use Rattle.panel.proofs.LeafRows.{good-past}
+use Rattle.panel.specs.declared.judging.Judgement.{Judgement}
+use Rattle.panel.specs.declared.judging.Judgement.the-variants as judgement
+use Rattle.panel.specs.Panels.{deepOf, Good, LeafOf}
+use Rattle.panel.specs.Calls.{panelRows, Judged, leafRows, NumberOf}
+use Rattle.panel.specs.inner.Judging.{judgementNumber, judgementDepth, GoodDepth}
+use Rattle.panel.proofs.LeafRows.{good-past, leaf-past}
 
-pub judged-no : {s : List ℕ} (rows : List Row) {A : Type 0} {Fine Refused : A → Type 0} {x : A} {a : Answer} {e : Refusal}
-    → a ≡ No e → Judged s (answerNumber a) → Refused x → Outcome (panelRows s ++ rows) A Fine Refused (refusalNumber e) x
-judged-no {s} rows {a} {e} h j r =
-    is-refused (refusal-pos e) (refused-more (panelRows s) rows (refusalNumber e) (refusal-pos e) (subst (λ (b : Answer). Judged s (answerNumber b)) h j)) r
+handed-on : (rows more : List Row) {A : Type 0} {Fine Refused : A → Type 0} {x : A} (e : Refusal)
+    → Answers rows (refusalNumber e) → Refused x → Outcome (rows ++ more) A Fine Refused (refusalNumber e) x
+handed-on rows more e a r = is-refused (refusal-pos e) (refused-more rows more (refusalNumber e) (refusal-pos e) a) r
 
-pub judged-done : {s : List ℕ} {a : Answer} → a ≡ Done → Judged s (answerNumber a) → Good s
-judged-done {s} h j = good-past [] (subst (λ (b : Answer). Judged s (answerNumber b)) h j) .0
+-- ---- a judgement
 
-pub good-deep : {s : List ℕ} {r : ℕ} → Good s → Deep s r → r ≡ deepOf s
-good-deep {s} {r} g d = go (ℕ-discrete r 0)
-  where
-    go : Dec (r ≡ 0) → r ≡ deepOf s
-    go (yes z) = absurd (d .none z (g .fits))
-    go (no z) = d .some z .1
+module _ {s : List ℕ} {j : Judgement} (o : GoodDepth s (judgementNumber j) (judgementDepth j)) where
+  pub judged-refusal : {e : Refusal} → j ≡ judgement.No e → Judged s (refusalNumber e)
+  judged-refusal h = subst (λ (i : Judgement). Judged s (judgementNumber i)) h (o .answer)
+
+  pub judged-no : {e : Refusal} {more : List Row} {A : Type 0} {Fine Refused : A → Type 0} {x : A}
+      → j ≡ judgement.No e → Refused x → Outcome (panelRows s ++ more) A Fine Refused (refusalNumber e) x
+  judged-no {e} {more} h r = handed-on (panelRows s) more e (judged-refusal h) r
+
+  pub judged-good : {d : ℕ} → j ≡ judgement.Good d → Good s × (d ≡ deepOf s)
+  judged-good {d} h =
+      let p : GoodDepth s 0 d = subst (λ (i : Judgement). GoodDepth s (judgementNumber i) (judgementDepth i)) h o in
+      (good-past [] (p .answer) .0, p .done refl)
+
+-- ---- the number of leaf k
+
+module _ {s : List ℕ} {k : ℕ} {a : Numbered} (o : NumberOf s k (numberedNumber a) (numberedLeaf a)) where
+  answered : {b : Numbered} → a ≡ b → Answers (leafRows s k) (numberedNumber b)
+  answered h = subst (λ (b : Numbered). Answers (leafRows s k) (numberedNumber b)) h (o .answer)
+
+  pub numbered-no : {e : Refusal} {more : List Row} {A : Type 0} {Fine Refused : A → Type 0} {x : A}
+      → a ≡ numbered.No e → Refused x → Outcome (leafRows s k ++ more) A Fine Refused (refusalNumber e) x
+  numbered-no {e} {more} h r = handed-on (leafRows s k) more e (answered h) r
+
+  pub numbered-leaf : {i : LeafNumber} → a ≡ numbered.Number i → LeafOf s k
+  numbered-leaf h = leaf-past [] (answered h) .1

@@ -7,19 +7,20 @@ use native.Mathlib.Omega.{arith}
 use Rattle.tables.specs.Table.{Row, unless, Answers}
 use Rattle.panel.specs.Panels.{Good, InRange, LeafOf, leafCount}
 use Rattle.panel.specs.Calls.{panelRows, leafRows}
+use Rattle.panel.proofs.GoodPanels.{leaf-in-range}
 use Rattle.panel.proofs.Rows.{behind}
 
 -- ---- calls that take a node: the rows behind 3 and 4 decide where it is a leaf
 
-module _ {s : List ℕ} {k : ℕ} (rows : List Row) where
-  pub no-such-node : Good s → (InRange s k → ⊥) → Answers (leafRows s k ++ rows) 3
-  no-such-node g f = behind (unless 3 (InRange s k) ∷ unless 4 (LeafOf s k) ∷ rows) g (inl (f, refl))
+module _ {s : List ℕ} {k : ℕ} (G : Good s) where
+  pub no-such-node : (InRange s k → ⊥) → Answers (leafRows s k) 3
+  no-such-node f = behind (unless 3 (InRange s k) ∷ unless 4 (LeafOf s k) ∷ []) G (inl (f, refl))
 
-  pub not-leaf : Good s → InRange s k → (LeafOf s k → ⊥) → Answers (leafRows s k ++ rows) 4
-  not-leaf g r f = behind (unless 3 (InRange s k) ∷ unless 4 (LeafOf s k) ∷ rows) g (inr (r, inl (f, refl)))
+  pub not-leaf : InRange s k → (LeafOf s k → ⊥) → Answers (leafRows s k) 4
+  not-leaf r f = behind (unless 3 (InRange s k) ∷ unless 4 (LeafOf s k) ∷ []) G (inr (r, inl (f, refl)))
 
-  pub is-leaf : {n : ℕ} → Good s → InRange s k → LeafOf s k → Answers rows n → Answers (leafRows s k ++ rows) n
-  is-leaf g r l a = behind (unless 3 (InRange s k) ∷ unless 4 (LeafOf s k) ∷ rows) g (inr (r, inr (l, a)))
+  pub is-leaf : (rows : List Row) {n : ℕ} → LeafOf s k → Answers rows n → Answers (leafRows s k ++ rows) n
+  is-leaf rows l a = behind (unless 3 (InRange s k) ∷ unless 4 (LeafOf s k) ∷ rows) G (inr (leaf-in-range s G k l, inr (l, a)))
 
 -- ---- calls that take a leaf number
 

@@ -1,22 +1,15 @@
 -- A judgement's refusal is handed on, and past it the judged panel's call is this one.
 use mathlib.Core.Path.{refl}
-use mathlib.Core.List.{[], _∷_}
 use borrow.Author.Needs.{needs}
-use Rattle.tables.specs.Table.{unless}
-use Rattle.panel.specs.Panels.{Good}
-use Rattle.panel.proofs.Judgements.{judged-no, judged-done, good-deep}
+use Rattle.panel.proofs.Judgements.{judged-no, judged-good}
 use Rattle.calls.proofs.changing.merge.Statement.{statement}
 use Rattle.calls.proofs.changing.merge.Tie as tie
 
-returns : tie.Need-returns
-returns c = judged-no (unless 3 _ ∷ unless 4 _ ∷ unless 6 _ ∷ unless 7 _ ∷ []) (c .before .a .given .1) (c .before .before .before .judge .ensures) refl
-
--- past the judgement the panel is good
-good : (c : tie.After-enum-told) → Good (c .before .before .before .before .before .args .panel .now)
-good c = judged-done (c .enum-told .given .1) (c .before .before .judge .ensures)
-
 merge-requires : tie.Need-merge-requires
-merge-requires c κs = let g = good (c .before .before .before) in (g, good-deep g (c .before .depth-of .ensures))
+merge-requires c κs = let j = c .before .before in judged-good (j .before .before .good-depth .ensures) (j .j .given .1)
+
+returns-2 : tie.Need-returns-2
+returns-2 c = judged-no (c .before .before .before .good-depth .ensures) (c .before .j2 .given .1) refl
 
 pub merge-spec : {M : Type 1} → statement M
 merge-spec =
@@ -24,10 +17,9 @@ merge-spec =
     (tie.spec
     (λ c κs. search needs)
     (λ c. search needs)
-    (λ c. search needs)
-    returns
-    (λ c. search needs)
-    (λ c κs. search needs)
     merge-requires
     (λ c. search needs)
-    (λ c. search needs))
+    (λ c. search needs)
+    (λ c. search needs)
+    (λ c. search needs)
+    returns-2)

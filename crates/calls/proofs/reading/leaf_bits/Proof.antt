@@ -1,51 +1,42 @@
--- The number answered is the judgement's; where it is 0 the part is the leaf bits'.
-use mathlib.Core.Path.{_≡_, refl, ap, _∙_, subst, subst⁻¹}
-use mathlib.Core.List.{[]}
+-- A judgement's refusal is handed on beside no bytes, and past it the part is the leaf bits'.
+use mathlib.Core.Path.{_≡_, refl, ap, _∙_}
 use Prim.Native.Nat.{ℕ, _-_, _*_, _^_}
 use lib.ListN.{take, drop}
-use Rattle.tables.proofs.Tables.{is-refused}
+use Rattle.tables.proofs.Tables.{is-done}
 use Rattle.panel.specs.Panels.{deepOf, Good}
-use Rattle.panel.specs.Calls.{Judged}
-use Rattle.panel.proofs.LeafRows.{good-past}
 use Rattle.panel.proofs.Lengths.{good-room}
-use Rattle.panel.proofs.Judgements.{good-deep}
+use Rattle.panel.proofs.Rows.{is-good}
+use Rattle.panel.proofs.Judgements.{judged-no, judged-good}
 use borrow.Author.Needs.{needs}
 use Rattle.calls.proofs.reading.leaf_bits.Statement.{statement}
 use Rattle.calls.proofs.reading.leaf_bits.Tie as tie
 
--- what the number says
-judged : (c : tie.After-number) → Judged (c .before .before .before .args .panel .now) (c .number .result)
-judged c = subst⁻¹ (Judged (c .before .before .before .args .panel .now)) (c .number .ensures) (c .before .judge .ensures)
-
-good : (c : tie.Else1) → Good (c .before .before .before .before .args .panel .now)
-good c = good-past [] (subst (Judged (c .before .before .before .before .args .panel .now)) (c .if1 .left) (judged (c .before))) .0
-
-deep : (c : tie.After-depth-of) → c .depth-of .result ≡ deepOf (c .before .before .before .before .before .args .panel .now)
-deep c = good-deep (good (c .before)) (c .depth-of .ensures)
-
-returns : tie.Need-returns
-returns c = is-refused (c .before .if1 .taken) (judged (c .before .before)) refl
+good : (c : tie.After-j) → let s = c .before .before .before .before .args .panel .now in Good s × (c .j .given .0 .0 ≡ deepOf s)
+good c = judged-good (c .before .before .good-depth .ensures) (c .j .given .1)
 
 leaf-part-requires : tie.Need-leaf-part-requires
-leaf-part-requires c κs = good-room _ (good (c .before)) (deep c)
+leaf-part-requires c κs = let g = good (c .before) in good-room _ (g .0) (g .1)
+
+returns : tie.Need-returns
+returns c =
+    let g = good (c .before .before) in
+    let s = c .before .before .before .before .before .before .args .panel .now in
+    is-done (is-good (g .0)) (c .leaf-part .ensures ∙ ap (λ (x : ℕ). take (2 ^ (x - 3)) (drop (3 * 2 ^ (x - 3)) s)) (g .1))
 
 returns-2 : tie.Need-returns-2
 returns-2 c =
-    let s = c .before .before .before .before .before .before .args .panel .now in
-    record {
-      answer = judged (c .before .before .before);
-      done = λ _. c .leaf-part .ensures ∙ ap (λ (x : ℕ). take (2 ^ (x - 3)) (drop (3 * 2 ^ (x - 3)) s)) (deep (c .before));
-      refused = λ h. absurd (h (c .before .before .if1 .left));
-    }
+    let j = c .before .before .before in
+    rw (c .before .number .ensures) (judged-no (j .before .before .good-depth .ensures) (j .j2 .given .1) refl)
 
 pub leaf-bits-spec : {M : Type 1} → statement M
 leaf-bits-spec =
     tie.close
     (tie.spec
     (λ c κs. search needs)
+    (λ c. search needs)
+    leaf-part-requires
+    (λ c. search needs)
     (λ c κs. search needs)
     (λ c. search needs)
     returns
-    (λ c κs. search needs)
-    leaf-part-requires
     returns-2)
