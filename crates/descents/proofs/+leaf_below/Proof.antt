@@ -76,32 +76,17 @@ leaf-below-get-field-requires t c κs = omega (arith, below t (c .before))
 leaf-below-cast-pick : (t : ℕ) → leaf-below-lts.Need-cast-pick (claims t) (leaf-below-at t) leaf-below.Post
 leaf-below-cast-pick t c = omega (arith, below t (c .before .before))
 
-leaf-below-pick-requires : (t : ℕ) → leaf-below-lts.Need-pick-requires (claims t) (leaf-below-at t) leaf-below.Post
-leaf-below-pick-requires t c κs = search needs
-
-leaf-below-cast-at : (t : ℕ) → leaf-below-lts.Need-cast-at (claims t) (leaf-below-at t) leaf-below.Post
-leaf-below-cast-at t c = search needs
-
 leaf-below-add-at : (t : ℕ) → leaf-below-lts.Need-add-at (claims t) (leaf-below-at t) leaf-below.Post
 leaf-below-add-at t c = omega (arith, below t (c .before .before .before))
 
 leaf-below-mul-child : (t : ℕ) → leaf-below-lts.Need-mul-child (claims t) (leaf-below-at t) leaf-below.Post
 leaf-below-mul-child t c = omega (arith, below t (c .before .before .before))
 
-leaf-below-pick-requires-2 : (t : ℕ) → leaf-below-lts.Need-pick-requires-2 (claims t) (leaf-below-at t) leaf-below.Post
-leaf-below-pick-requires-2 t c κs = search needs
-
 leaf-below-add-child : (t : ℕ) → leaf-below-lts.Need-add-child (claims t) (leaf-below-at t) leaf-below.Post
 leaf-below-add-child t c = omega (arith, below t (c .before .before .before .before), at-most 1 (c .pick2 .ensures) (omega arith) (omega arith))
 
 leaf-below-sub-pick : (t : ℕ) → leaf-below-lts.Need-sub-pick (claims t) (leaf-below-at t) leaf-below.Post
 leaf-below-sub-pick t c = omega (arith, below t (c .before .before .before .before), got t (c .before .before))
-
-leaf-below-pick-requires-3 : (t : ℕ) → leaf-below-lts.Need-pick-requires-3 (claims t) (leaf-below-at t) leaf-below.Post
-leaf-below-pick-requires-3 t c κs = search needs
-
-leaf-below-pick-requires-4 : (t : ℕ) → leaf-below-lts.Need-pick-requires-4 (claims t) (leaf-below-at t) leaf-below.Post
-leaf-below-pick-requires-4 t c κs = search needs
 
 leaf-below-sub-leaf-below : (t : ℕ) → leaf-below-lts.Need-sub-leaf-below (claims t) (leaf-below-at t) leaf-below.Post
 leaf-below-sub-leaf-below t c = below t (c .before .before .before .before .before .before) .levels
@@ -128,15 +113,15 @@ pub +leaf-below-spec : {M : Type 1} → statement M
     (leaf-below-mul-first t)
     (leaf-below-get-field-requires t)
     (leaf-below-cast-pick t)
-    (leaf-below-pick-requires t)
-    (leaf-below-cast-at t)
+    (λ c κs. search needs)
+    (λ c. search needs)
     (leaf-below-add-at t)
     (leaf-below-mul-child t)
-    (leaf-below-pick-requires-2 t)
+    (λ c κs. search needs)
     (leaf-below-add-child t)
     (leaf-below-sub-pick t)
-    (leaf-below-pick-requires-3 t)
-    (leaf-below-pick-requires-4 t)
+    (λ c κs. search needs)
+    (λ c κs. search needs)
     (leaf-below-sub-leaf-below t)
     (leaf-below-sub-leaf-below-2 t)
     (leaf-below-leaf-below-requires t)

@@ -50,20 +50,8 @@ child t c =
     let k = below t (b .before .before) in
     chosen k (got t b) (more _ (c .before .before .pick .ensures)) (next (a .n) (a .left) _ (k .levels) (eqb-true _ 0) (eqb-false _ 0)) (c .before .pick2 .ensures) (c .pick3 .ensures)
 
-leaf-over-cast-result : (t : ℕ) → leaf-over-lts.Need-cast-result (claims t) (leaf-over-at t) leaf-over.Post
-leaf-over-cast-result t c = search needs
-
-leaf-over-shr-result : (t : ℕ) → leaf-over-lts.Need-shr-result (claims t) (leaf-over-at t) leaf-over.Post
-leaf-over-shr-result t c = search needs
-
 leaf-over-returns : (t : ℕ) → leaf-over-lts.Need-returns (claims t) (leaf-over-at t) leaf-over.Post
 leaf-over-returns t c = let p = c .before .pre .1 in stop-over (p .0) (p .1) (p .2) (c .if1 .taken)
-
-leaf-over-cast-first : (t : ℕ) → leaf-over-lts.Need-cast-first (claims t) (leaf-over-at t) leaf-over.Post
-leaf-over-cast-first t c = search needs
-
-leaf-over-shr-first : (t : ℕ) → leaf-over-lts.Need-shr-first (claims t) (leaf-over-at t) leaf-over.Post
-leaf-over-shr-first t c = search needs
 
 leaf-over-cast-first-2 : (t : ℕ) → leaf-over-lts.Need-cast-first-2 (claims t) (leaf-over-at t) leaf-over.Post
 leaf-over-cast-first-2 t c = omega (arith, below t c)
@@ -89,23 +77,11 @@ leaf-over-shr-to-left t c = omega (arith, below t (c .before .before))
 leaf-over-cast-pick : (t : ℕ) → leaf-over-lts.Need-cast-pick (claims t) (leaf-over-at t) leaf-over.Post
 leaf-over-cast-pick t c = omega (arith, below t (c .before .before))
 
-leaf-over-pick-requires : (t : ℕ) → leaf-over-lts.Need-pick-requires (claims t) (leaf-over-at t) leaf-over.Post
-leaf-over-pick-requires t c κs = search needs
-
-leaf-over-cast-at : (t : ℕ) → leaf-over-lts.Need-cast-at (claims t) (leaf-over-at t) leaf-over.Post
-leaf-over-cast-at t c = search needs
-
 leaf-over-add-at : (t : ℕ) → leaf-over-lts.Need-add-at (claims t) (leaf-over-at t) leaf-over.Post
 leaf-over-add-at t c = omega (arith, below t (c .before .before .before))
 
 leaf-over-sub-pick : (t : ℕ) → leaf-over-lts.Need-sub-pick (claims t) (leaf-over-at t) leaf-over.Post
 leaf-over-sub-pick t c = omega (arith, below t (c .before .before .before), got t (c .before))
-
-leaf-over-pick-requires-2 : (t : ℕ) → leaf-over-lts.Need-pick-requires-2 (claims t) (leaf-over-at t) leaf-over.Post
-leaf-over-pick-requires-2 t c κs = search needs
-
-leaf-over-pick-requires-3 : (t : ℕ) → leaf-over-lts.Need-pick-requires-3 (claims t) (leaf-over-at t) leaf-over.Post
-leaf-over-pick-requires-3 t c κs = search needs
 
 leaf-over-sub-leaf-over : (t : ℕ) → leaf-over-lts.Need-sub-leaf-over (claims t) (leaf-over-at t) leaf-over.Post
 leaf-over-sub-leaf-over t c = below t (c .before .before .before .before .before) .levels
@@ -129,11 +105,11 @@ pub +leaf-over-spec : {M : Type 1} → statement M
 +leaf-over-spec = close μ-leaf-over λ t. leaf-over-lts.spec (claims t)
     (leaf-over-at t)
     leaf-over.Post
-    (leaf-over-cast-result t)
-    (leaf-over-shr-result t)
+    (λ c. search needs)
+    (λ c. search needs)
     (leaf-over-returns t)
-    (leaf-over-cast-first t)
-    (leaf-over-shr-first t)
+    (λ c. search needs)
+    (λ c. search needs)
     (leaf-over-cast-first-2 t)
     (leaf-over-sub-first t)
     (leaf-over-mul-first t)
@@ -142,12 +118,12 @@ pub +leaf-over-spec : {M : Type 1} → statement M
     (leaf-over-cast-to-left t)
     (leaf-over-shr-to-left t)
     (leaf-over-cast-pick t)
-    (leaf-over-pick-requires t)
-    (leaf-over-cast-at t)
+    (λ c κs. search needs)
+    (λ c. search needs)
     (leaf-over-add-at t)
     (leaf-over-sub-pick t)
-    (leaf-over-pick-requires-2 t)
-    (leaf-over-pick-requires-3 t)
+    (λ c κs. search needs)
+    (λ c κs. search needs)
     (leaf-over-sub-leaf-over t)
     (leaf-over-add-leaf-over t)
     (leaf-over-leaf-over-requires t)
