@@ -1,5 +1,8 @@
-// Going down from node 1 of a good panel to a leaf. Each step is the last thing that a call does and hands on plain numbers, the panel
-// behind one reference: the compiler makes a loop of it, which needs no stack.
+// Going down from node 1 of a good panel to a leaf. Each step is the last thing that a call does, the panel behind one reference: the
+// compiler makes a loop of it, which needs no stack. What comes back is a plain number: a struct comes back through memory, level by level,
+// and no loop can be made of that.
+use nodes::LeafNumber;
+use nodes::Node;
 ghost use mathlib.Core.Path.{_≡_};
 ghost use Prim.Native.Nat.{_+_, _/_, _^_, _<_};
 ghost use Rattle.panel.specs.Panels.{Good, numberIn};
@@ -15,21 +18,31 @@ fn pick(c: bool, a: u32, b: u32) -> u32
 
 // The leaf that has i leaves left of it below `node`, whose word starts at bit `start`; `left` levels are left to the last.
 // Only the left child's word is read: where it starts follows from the node's, and the right child's word is the rest.
-pub fn leaf_below(panel: &&[u8], left: usize, start: usize, node: u32, word: u32, i: u32) -> u32
-    requires { ⌜ Good (now (now panel)) × Spot (now (now panel)) left start node word × (i < word) ⌝ }
-    ensures { λ r. ⌜ LeafNumbered (now (now (panel .entry))) (numberIn (now (now (panel .entry))) node + i) r ⌝ }
+pub fn leaf_below(
+    panel: &&[u8],
+    left: usize,
+    start: usize,
+    node: Node,
+    word: u32,
+    i: LeafNumber,
+) -> u32
+    requires { ⌜ Good (now (now panel)) × Spot (now (now panel)) left start (node .0) word × (i .0 < word) ⌝ }
+    ensures { λ r. ⌜ LeafNumbered (now (now (panel .entry))) (numberIn (now (now (panel .entry))) (node .0) + i .0) r ⌝ }
 {
+    let k = node.0;
     if word < 2 {
-        return node;
+        return k;
     }
-    let first = 2 * (start - node as usize);
+    let first = 2 * (start - k as usize);
     let l = fields::get_field(*panel, first, left);
-    let in_left = i < l;
+    let n = i.0;
+    let in_left = n < l;
     let at = first + pick(in_left, 0, left as u32) as usize;
-    let child = 2 * node + pick(in_left, 0, 1);
+    let child = 2 * k + pick(in_left, 0, 1);
     let leaves = pick(in_left, l, word - l);
     let past = pick(in_left, 0, l);
-    leaf_below(panel, left - 1, at, child, leaves, i - past)
+    let rest = n - past;
+    leaf_below(panel, left - 1, at, Node(child), leaves, LeafNumber(rest))
 }
 
 // The leaf on the way to n, a node of depth D, and into `number` its number. The way has come to the node `left` levels above n,
@@ -39,22 +52,24 @@ pub fn leaf_over(
     left: usize,
     start: usize,
     own: u32,
-    before: u32,
-    n: u32,
+    before: LeafNumber,
+    n: Node,
     number: &mut u32,
 ) -> u32
-    requires { ⌜ Good (now (now panel)) × Spot (now (now panel)) left start (n / 2 ^ left) own × (before ≡ numberIn (now (now panel)) (n / 2 ^ left)) ⌝ }
-    ensures { λ r. ⌜ OnWay (now (now (panel .entry))) n r (now (number .exit)) ⌝ }
+    requires { ⌜ Good (now (now panel)) × Spot (now (now panel)) left start (n .0 / 2 ^ left) own × (before .0 ≡ numberIn (now (now panel)) (n .0 / 2 ^ left)) ⌝ }
+    ensures { λ r. ⌜ OnWay (now (now (panel .entry))) (n .0) r (now (number .exit)) ⌝ }
 {
+    let k = n.0;
     if own < 2 {
-        *number = before;
-        return n >> left;
+        *number = before.0;
+        return k >> left;
     }
-    let first = 2 * (start - (n >> left) as usize);
+    let first = 2 * (start - (k >> left) as usize);
     let l = fields::get_field(*panel, first, left);
-    let to_left = (n >> (left - 1)) % 2 == 0;
+    let to_left = (k >> (left - 1)) % 2 == 0;
     let at = first + pick(to_left, 0, left as u32) as usize;
     let leaves = pick(to_left, l, own - l);
     let past = pick(to_left, 0, l);
-    leaf_over(panel, left - 1, at, leaves, before + past, n, number)
+    let passed = before.0 + past;
+    leaf_over(panel, left - 1, at, leaves, LeafNumber(passed), n, number)
 }

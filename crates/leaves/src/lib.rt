@@ -33,7 +33,7 @@ pub fn leaf_at(panel: &[u8], deep: usize, i: LeafNumber) -> Node
     ensures { λ r. ⌜ LeafNumbered (now (panel .entry)) (i .0) (r .0) ⌝ }
 {
     let n = count(panel, deep);
-    Node(leaf_below(&panel, deep, deep + 3, 1, n, i.0))
+    Node(leaf_below(&panel, deep, deep + 3, Node(1), n, i))
 }
 
 // Whether k is a node of a panel, by its depth.
@@ -54,14 +54,14 @@ pub fn leaf_toward(panel: &[u8], deep: usize, k: Node) -> Stop
     requires { ⌜ Good (now panel) × (deep ≡ deepOf (now panel)) × InRange (now panel) (k .0) ⌝ }
     ensures { λ r. ⌜ OnFirstWay (now (panel .entry)) (k .0) (r .node .0) (r .number .0) ⌝ }
 {
-    let d = nodes::depth(k) as usize;
-    let first = k.0 << (deep - d);
+    let levels = deep - nodes::depth(k) as usize;
+    let first = Node(k.0 << levels);
     let n = count(panel, deep);
-    let mut number = 0;
-    let node = leaf_over(&panel, deep, deep + 3, n, 0, first, &mut number);
+    let mut i = LeafNumber(0);
+    let node = leaf_over(&panel, deep, deep + 3, n, LeafNumber(0), first, &mut i.0);
     Stop {
         node: Node(node),
-        number: LeafNumber(number),
+        number: i,
     }
 }
 

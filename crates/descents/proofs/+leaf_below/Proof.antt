@@ -33,18 +33,18 @@ claims t = (get-field-reads.Asked, get-field-reads.Learnt, pick-reads.Asked, pic
 
 -- the node is cut, and its children's words stand where the code reads
 below : (t : ℕ) (c : leaf-below-lts.Else1 (claims t) (leaf-below-at t) leaf-below.Post)
-    → let a = c .before .args in Children (now (a .panel .now)) (a .left) (a .start) (a .node) (a .word)
+    → let a = c .before .args in Children (now (a .panel .now)) (a .left) (a .start) (a .node .0) (a .word)
 below t c = let p = c .before .pre .1 in children _ (p .0) _ _ _ _ (p .1) (c .if1 .left)
 
 -- the left child's word was read
 got : (t : ℕ) (c : leaf-below-lts.After-get-field (claims t) (leaf-below-at t) leaf-below.Post)
-    → let a = c .before .before .before .args in c .get-field .result ≡ word (deepOf (now (a .panel .now))) (now (a .panel .now)) (2 * a .node)
+    → let a = c .before .before .before .args in c .get-field .result ≡ word (deepOf (now (a .panel .now))) (now (a .panel .now)) (2 * a .node .0)
 got t c = c .get-field .ensures ∙ below t (c .before .before) .holds
 
 -- the child's numbers were picked
 child : (t : ℕ) (c : leaf-below-lts.After-pick4 (claims t) (leaf-below-at t) leaf-below.Post)
     → let a = c .before .before .before .before .before .before .before .args in
-    Chosen (now (a .panel .now)) (a .left) (a .node) (2 * (a .start - a .node) + c .before .before .before .pick .result) (2 * a .node + c .before .before .pick2 .result) (c .before .pick3 .result) (c .pick4 .result)
+    Chosen (now (a .panel .now)) (a .left) (a .node .0) (2 * (a .start - a .node .0) + c .before .before .before .pick .result) (2 * a .node .0 + c .before .before .pick2 .result) (c .before .pick3 .result) (c .pick4 .result)
 child t c =
     let b = c .before .before .before .before in
     chosen (below t (b .before .before)) (got t b) (more _ (c .before .before .before .pick .ensures)) (more _ (c .before .before .pick2 .ensures)) (c .before .pick3 .ensures) (c .pick4 .ensures)
@@ -52,12 +52,12 @@ child t c =
 -- the leaf is as far below the child
 left-of : (t : ℕ) (c : leaf-below-lts.After-pick4 (claims t) (leaf-below-at t) leaf-below.Post)
     → let a = c .before .before .before .before .before .before .before .args in
-    (c .pick4 .result ≤ a .i) × (a .i - c .pick4 .result < c .before .pick3 .result)
+    (c .pick4 .result ≤ a .i .0) × (a .i .0 - c .pick4 .result < c .before .pick3 .result)
 left-of t c =
     let a = c .before .before .before .before .before .before .before .args in
     let p = c .before .before .before .before .before .before .before .pre .1 in
     let l = c .before .before .before .before .get-field .result in
-    fewer (ltb-true (a .i) l) (ltb-false (a .i) l) (p .2) (c .before .pick3 .ensures) (c .pick4 .ensures)
+    fewer (ltb-true (a .i .0) l) (ltb-false (a .i .0) l) (p .2) (c .before .pick3 .ensures) (c .pick4 .ensures)
 
 leaf-below-returns : (t : ℕ) → leaf-below-lts.Need-returns (claims t) (leaf-below-at t) leaf-below.Post
 leaf-below-returns t c =
@@ -76,20 +76,11 @@ leaf-below-get-field-requires t c κs = omega (arith, below t (c .before))
 leaf-below-cast-pick : (t : ℕ) → leaf-below-lts.Need-cast-pick (claims t) (leaf-below-at t) leaf-below.Post
 leaf-below-cast-pick t c = omega (arith, below t (c .before .before))
 
-leaf-below-pick-requires : (t : ℕ) → leaf-below-lts.Need-pick-requires (claims t) (leaf-below-at t) leaf-below.Post
-leaf-below-pick-requires t c κs = search needs
-
-leaf-below-cast-at : (t : ℕ) → leaf-below-lts.Need-cast-at (claims t) (leaf-below-at t) leaf-below.Post
-leaf-below-cast-at t c = search needs
-
 leaf-below-add-at : (t : ℕ) → leaf-below-lts.Need-add-at (claims t) (leaf-below-at t) leaf-below.Post
 leaf-below-add-at t c = omega (arith, below t (c .before .before .before))
 
 leaf-below-mul-child : (t : ℕ) → leaf-below-lts.Need-mul-child (claims t) (leaf-below-at t) leaf-below.Post
 leaf-below-mul-child t c = omega (arith, below t (c .before .before .before))
-
-leaf-below-pick-requires-2 : (t : ℕ) → leaf-below-lts.Need-pick-requires-2 (claims t) (leaf-below-at t) leaf-below.Post
-leaf-below-pick-requires-2 t c κs = search needs
 
 leaf-below-add-child : (t : ℕ) → leaf-below-lts.Need-add-child (claims t) (leaf-below-at t) leaf-below.Post
 leaf-below-add-child t c = omega (arith, below t (c .before .before .before .before), at-most 1 (c .pick2 .ensures) (omega arith) (omega arith))
@@ -97,17 +88,11 @@ leaf-below-add-child t c = omega (arith, below t (c .before .before .before .bef
 leaf-below-sub-pick : (t : ℕ) → leaf-below-lts.Need-sub-pick (claims t) (leaf-below-at t) leaf-below.Post
 leaf-below-sub-pick t c = omega (arith, below t (c .before .before .before .before), got t (c .before .before))
 
-leaf-below-pick-requires-3 : (t : ℕ) → leaf-below-lts.Need-pick-requires-3 (claims t) (leaf-below-at t) leaf-below.Post
-leaf-below-pick-requires-3 t c κs = search needs
-
-leaf-below-pick-requires-4 : (t : ℕ) → leaf-below-lts.Need-pick-requires-4 (claims t) (leaf-below-at t) leaf-below.Post
-leaf-below-pick-requires-4 t c κs = search needs
+leaf-below-sub-rest : (t : ℕ) → leaf-below-lts.Need-sub-rest (claims t) (leaf-below-at t) leaf-below.Post
+leaf-below-sub-rest t c = left-of t c .0
 
 leaf-below-sub-leaf-below : (t : ℕ) → leaf-below-lts.Need-sub-leaf-below (claims t) (leaf-below-at t) leaf-below.Post
 leaf-below-sub-leaf-below t c = below t (c .before .before .before .before .before .before) .levels
-
-leaf-below-sub-leaf-below-2 : (t : ℕ) → leaf-below-lts.Need-sub-leaf-below-2 (claims t) (leaf-below-at t) leaf-below.Post
-leaf-below-sub-leaf-below-2 t c = left-of t c .0
 
 leaf-below-leaf-below-requires : (t : ℕ) → leaf-below-lts.Need-leaf-below-requires (claims t) (leaf-below-at t) leaf-below.Post
 leaf-below-leaf-below-requires t c κs =
@@ -124,20 +109,21 @@ pub +leaf-below-spec : {M : Type 1} → statement M
     (leaf-below-at t)
     leaf-below.Post
     (leaf-below-returns t)
+    (λ c. search needs)
     (leaf-below-sub-first t)
     (leaf-below-mul-first t)
     (leaf-below-get-field-requires t)
     (leaf-below-cast-pick t)
-    (leaf-below-pick-requires t)
-    (leaf-below-cast-at t)
+    (λ c κs. search needs)
+    (λ c. search needs)
     (leaf-below-add-at t)
     (leaf-below-mul-child t)
-    (leaf-below-pick-requires-2 t)
+    (λ c κs. search needs)
     (leaf-below-add-child t)
     (leaf-below-sub-pick t)
-    (leaf-below-pick-requires-3 t)
-    (leaf-below-pick-requires-4 t)
+    (λ c κs. search needs)
+    (λ c κs. search needs)
+    (leaf-below-sub-rest t)
     (leaf-below-sub-leaf-below t)
-    (leaf-below-sub-leaf-below-2 t)
     (leaf-below-leaf-below-requires t)
     (leaf-below-returns-2 t)

@@ -1,7 +1,9 @@
 -- No leaves stand left of node 1, so the leaf with i leaves left of it below node 1 has number i.
 use mathlib.Core.Path.{subst}
+use Prim.Native.Nat.{_+_}
 use native.Mathlib.Omega.{arith}
 use borrow.Author.Needs.{needs}
+use Rattle.panel.specs.Panels.{numberIn}
 use Rattle.panel.specs.Calls.{LeafNumbered}
 use Rattle.panel.proofs.GoodPanels.{number-root}
 use Rattle.descents.proofs.Downward.{root-spot}
@@ -16,7 +18,7 @@ leaf-below-requires c κs =
 returns : tie.Need-returns
 returns c =
     let a = c .before .before .before .before .args in
-    subst (λ x. LeafNumbered (a .t1 .now) x (c .leaf-below .result))
+    subst (λ x. LeafNumbered (a .t1 .now) x (c .leaf-below .result)) {x = numberIn (a .t1 .now) 1 + a .i .0}
     (omega (arith, number-root (a .t1 .now) (c .before .before .before .before .pre .0))) (c .leaf-below .ensures)
 
 pub leaf-at-spec : {M : Type 1} → statement M

@@ -5,8 +5,8 @@ use borrow.Author.Needs.{needs}
 use Rattle.leaves.proofs.leaf_toward.Statement.{statement}
 use Rattle.leaves.proofs.leaf_toward.Tie as tie
 
-sub-first : tie.Need-sub-first
-sub-first c = let p = c .before .before .pre in shallow _ (p .0) _ (p .2) (p .1) (c .depth .ensures)
+sub-levels : tie.Need-sub-levels
+sub-levels c = let p = c .before .before .pre in shallow _ (p .0) _ (p .2) (p .1) (c .depth .ensures)
 
 leaf-over-requires : tie.Need-leaf-over-requires
 leaf-over-requires c κs =
@@ -21,4 +21,4 @@ returns c =
 
 pub leaf-toward-spec : {M : Type 1} → statement M
 leaf-toward-spec =
-    tie.close (tie.spec (λ c κs. search needs) (λ c. search needs) sub-first (λ c. search needs) (λ c. search needs) (λ c κs. search needs) (λ c. search needs) leaf-over-requires returns)
+    tie.close (tie.spec (λ c κs. search needs) (λ c. search needs) sub-levels (λ c. search needs) (λ c. search needs) (λ c κs. search needs) (λ c. search needs) leaf-over-requires returns)
