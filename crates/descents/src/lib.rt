@@ -46,7 +46,8 @@ pub fn leaf_below(
 }
 
 // The leaf on the way to n, a node of depth D, and into `number` its number. The way has come to the node `left` levels above n,
-// whose own word starts at bit `start`, with `before` leaves left of it. It reads as `leaf_below` does.
+// whose own word starts at bit `start`, with `before` leaves left of it. It reads as `leaf_below` does. `number` is lent from a leaf
+// number: a reference to the struct itself is not covered by the borrow checker.
 pub fn leaf_over(
     panel: &&[u8],
     left: usize,
