@@ -13,9 +13,10 @@ use Rattle.answers.specs.declared.Answer.the-variants.{Done, No}
 use Rattle.answers.specs.Refusals.{refusalNumber, answerNumber}
 use Rattle.answers.proofs.Refusing.{refusal-pos, arm-done, arm-no}
 use Rattle.tables.proofs.Tables.{is-refused}
-use Rattle.panel.specs.Panels.{Fits, deepOf, Good}
+use Rattle.panel.specs.Panels.{sizeOf, Fits, deepOf, Good}
 use Rattle.panel.specs.Calls.{Open, Split, Merge}
-use Rattle.requests.specs.Requests.{sizeOf, panelIn, Called, Step}
+use Rattle.panel.proofs.Lengths.{fits-small}
+use Rattle.requests.specs.Requests.{panelIn, Called, Step}
 use Rattle.records.specs.Records.{kind, number, Fine}
 use Rattle.requests.specs.Requests.Called.{opened, refused, split, merge}
 use Rattle.requests.specs.Requests.Step.{call}
@@ -75,8 +76,8 @@ module _ (k D n m : ℕ) (b t : List ℕ) (e : n ≡ sizeOf D) where
 -- ---- what the judged calls ask of the part that is lent
 
 module _ {D : ℕ} {b : List ℕ} (h : Holds D b) (z : D ≢ 0) where
-  pub lent-small : D ≤ greatestDepth
-  lent-small = held-fits h z .high
+  pub lent-small : D ≤ 17
+  lent-small = fits-small (held-fits h z)
 
   pub lent-inside : (n : ℕ) → n ≡ sizeOf D → n ≤ length b
   lent-inside n e = omega (arith, held-inside h z)

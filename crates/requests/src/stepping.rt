@@ -2,28 +2,16 @@
 use answers::Answer;
 use answers::Refusal;
 use nodes::Node;
+use panel::size;
 ghost use mathlib.Core.Path.{_≡_};
-ghost use Prim.Native.Nat.{_≤_};
-ghost use Rattle.nodes.specs.Limits.{greatestDepth};
 ghost use Rattle.answers.specs.Refusals.{refusalNumber, answerNumber};
-ghost use Rattle.requests.specs.Requests.{sizeOf, Called, Step};
+ghost use Rattle.requests.specs.Requests.{Called, Step};
 ghost use Rattle.requests.specs.inner.Holding.{Holds};
 
 // What a record comes to: its answer, and the depth of the panel that is open after it, or 0.
 pub struct Stepped {
     pub answer: Answer,
     pub deep: usize,
-}
-
-// The bytes of a panel of this depth.
-pub fn size(deep: usize) -> usize
-    requires { ⌜ deep ≤ greatestDepth ⌝ }
-    ensures { λ r. ⌜ r ≡ sizeOf deep ⌝ }
-{
-    if deep == 0 {
-        return 0;
-    }
-    1usize << (deep - 1)
 }
 
 // What a refused record comes to: the panel before it is kept.
