@@ -21,7 +21,7 @@ use Rattle.panel.specs.Panels.{Fits, deepOf, CutOf, Good, LeafOf}
 use Rattle.panel.specs.Calls.{SplitAt, Together, MergeAt}
 use Rattle.cuts.specs.inner.Steps.{NodeOf}
 use Rattle.cutting.specs.inner.Changing.{CutPut, AtWork, CutIn, SplitBits, MergeBits}
-use Rattle.panel.proofs.Lengths.{fits-room}
+use Rattle.panel.proofs.Lengths.{fits-small, fits-room}
 use Rattle.cuts.proofs.Places.{cut-low, cut-depth}
 use Rattle.cuts.proofs.ForcedCuts.{good-iff, smallest-iff}
 use Rattle.cuts.proofs.ForcedChain.{Chain, chain-start, chain-root, chain-cut, chain-last, chain-step, chain-smallest}
@@ -39,7 +39,7 @@ pub record Splitting (s : List ℕ) (k : ℕ) (bs : List ℕ) (m : ℕ) : Type 0
 
 module _ {s : List ℕ} (G : Good s) where
   shallow : deepOf s ≤ 32
-  shallow = omega (arith, G .fits .high)
+  shallow = omega (arith, fits-small (G .fits))
 
   pub work-start : AtWork s s
   work-start = record { long = refl; bit-0 = G .right .bit-0; bit-1 = G .right .bit-1; depth = G .right .depth; first = G .first }

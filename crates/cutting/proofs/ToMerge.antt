@@ -11,7 +11,9 @@ use Rattle.nodes.specs.Neighbours.{edge}
 use Rattle.tables.specs.Table.{Says}
 use Rattle.nodes.proofs.Depths.{pow-next, at-depth, depth-half, depth-left, depth-le, below-depth}
 use Rattle.nodes.proofs.Edges.{edge-depth}
+use Rattle.nodes.proofs.Limits.{node-small}
 use Rattle.panel.specs.Panels.{deepOf, RightLength, InRange, LeafOf}
+use Rattle.panel.proofs.Lengths.{fits-small}
 use Rattle.cuts.specs.Cuts.{sibling}
 use Rattle.panel.specs.Calls.{Together}
 
@@ -20,8 +22,8 @@ pub parent-low : {k : ℕ} → 2 ≤ k → 1 < depthOf k → 2 ≤ k / 2
 parent-low {k} h d = omega (arith, pow-mono {i = 2} {j = depthOf k} d, at-depth {n = k} (omega arith))
 
 -- a panel's nodes are small numbers
-pub range-small : {s : List ℕ} {n : ℕ} → RightLength s → InRange s n → n < 2 ^ 15
-range-small {s} f r = omega (arith, r .high, pow-mono {i = deepOf s + 1} {j = 15} (omega (arith, f .high)))
+pub range-small : {s : List ℕ} {n : ℕ} → RightLength s → InRange s n → n < 2 ^ 18
+range-small f r = node-small (fits-small f) (r .high)
 
 module _ {s : List ℕ} {k : ℕ} (r : InRange s k) (d : 1 < depthOf k) where
   pub sibling-in : InRange s (sibling k)

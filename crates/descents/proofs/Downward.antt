@@ -15,7 +15,7 @@ use Rattle.words.specs.Words.{width, word, leafBit, Room}
 use Rattle.words.proofs.Slots.{from, wide, packed, in-panel}
 use Rattle.panel.specs.Panels.{deepOf, CutOf, Good, LeafOf, numberIn, leafCount}
 use Rattle.descents.specs.inner.Descents.{OnWay, Spot, Picked}
-use Rattle.panel.proofs.Lengths.{fits-bits, good-room}
+use Rattle.panel.proofs.Lengths.{fits-small, fits-bits, good-room}
 use Rattle.cuts.proofs.Places.{cut-depth}
 use Rattle.cuts.proofs.Covering.{ancestor-is}
 use Rattle.cuts.proofs.Descent.{reached-left, reached-right}
@@ -24,13 +24,13 @@ use Rattle.panel.proofs.GoodPanels.{good-bits, cut-word, reached-word, leaf-wor
 -- where the words of a node's children stand
 pub record Children (s : List ℕ) (left p k w : ℕ) : Type 0 where
   pub levels : 1 ≤ left
-  pub most : left ≤ 14
+  pub most : left ≤ 17
   pub back : k ≤ p
   pub four : 4 ≤ length s
   pub room : 2 * (p - k) + left ≤ 8 * length s
-  pub few : 8 * length s ≤ 65536
-  pub low : k < 32768
-  pub counts : numberIn s k + w < 32768
+  pub few : 8 * length s ≤ 2 ^ 19
+  pub low : k < 2 ^ 17
+  pub counts : numberIn s k + w < 2 ^ 18
   pub holds : field s (2 * (p - k)) left ≡ word (deepOf s) s (2 * k)
   pub sums : w ≡ word (deepOf s) s (2 * k) + word (deepOf s) s (2 * k + 1)
   pub to-left : Spot s (left - 1) (2 * (p - k)) (2 * k) (word (deepOf s) s (2 * k))
@@ -39,11 +39,11 @@ pub record Children (s : List ℕ) (left p k w : ℕ) : Type 0 where
   pub number-right : numberIn s (2 * k + 1) ≡ numberIn s k + word (deepOf s) s (2 * k)
 
 module _ (s : List ℕ) (G : Good s) where
-  count-lt : leafCount s < 32768
+  count-lt : leafCount s < 2 ^ 18
   unfolding word
   count-lt =
       let d : depthOf 1 ≡ 0 = depth-is at-root in
-      omega (arith, field-lt s (from (deepOf s) 1) (wide (deepOf s) 1), pow-mono {i = wide (deepOf s) 1} {j = 15} (omega (arith, G .fits .high)))
+      omega (arith, field-lt s (from (deepOf s) 1) (wide (deepOf s) 1), pow-mono {i = wide (deepOf s) 1} {j = 18} (omega (arith, fits-small (G .fits))))
 
   module _ (left p k w : ℕ) (S : Spot s left p k w) where
     under : k < 2 ^ (deepOf s + 1)
@@ -98,12 +98,12 @@ module _ (s : List ℕ) (G : Good s) where
       children =
           let size = fits-bits s (deepOf s) (G .fits) in record {
             levels = omega (arith, above, S .levels);
-            most = omega (arith, S .levels, G .fits .high);
+            most = omega (arith, S .levels, fits-small (G .fits));
             back = omega (arith, own, S .place);
             four = omega (arith, size, pow-mono {i = 5} {j = deepOf s + 2} (omega (arith, G .fits .low)));
             room = omega (arith, size, at-left, wide-left, in-panel (deepOf s) (2 * k) (omega (arith, kids)));
-            few = omega (arith, size, pow-mono {i = deepOf s + 2} {j = 16} (omega (arith, G .fits .high)));
-            low = omega (arith, low, pow-mono {i = deepOf s} {j = 14} (G .fits .high));
+            few = omega (arith, size, pow-mono {i = deepOf s + 2} {j = 19} (omega (arith, fits-small (G .fits))));
+            low = omega (arith, low, pow-mono {i = deepOf s} {j = 17} (fits-small (G .fits)));
             counts = omega (arith, S .within, count-lt);
             holds = ap₂ (field s) at-left (sym wide-left);
             sums = total;

@@ -16,6 +16,7 @@ use Rattle.tables.specs.Table.{Row, unless, Outcome}
 use Rattle.triangles.specs.Calls.{nodeRows, Neighbours, noCorners, Corners}
 use Rattle.nodes.proofs.Depths.{depth-le}
 use Rattle.nodes.proofs.Edges.{edge-mutual}
+use Rattle.nodes.proofs.Limits.{known-shallow}
 use Rattle.nodes.proofs.Neighbouring.{left-right}
 use Rattle.triangles.proofs.Sides.{Across, Beside, edge-across, left-beside}
 use Rattle.triangles.proofs.Borders.{Border, border}
@@ -27,8 +28,9 @@ use Rattle.words.specs.Words.{word, leafBit}
 use Rattle.sums.proofs.Counts.{word-all}
 use Rattle.cuts.specs.Cuts.{CoverOnce}
 use Rattle.cuts.proofs.Areas.{total}
-use Rattle.panel.specs.Panels.{Fits, deepOf, CutOf, Good, LeafOf, leafCount}
+use Rattle.panel.specs.Panels.{sizeOf, Fits, deepOf, CutOf, Good, LeafOf, leafCount}
 use Rattle.panel.specs.Calls.{panelRows, leafRows, Judged, Count, LeafBits, LeafAt, NumberOf, Open, SplitAt, Split, Together, MergeAt, Merge}
+use Rattle.panel.proofs.Lengths.{fits-small}
 use Rattle.panel.proofs.GoodPanels.{leaf-in-range, leaf-areas}
 use Rattle.panel.proofs.SameBytes.{bytes-same}
 use Rattle.panel.proofs.Once.{judge-one, count-one, leaf-bits-one, leaf-at-one, number-of-one, open-one, split-one, merge-one}
@@ -157,7 +159,7 @@ total-same f g (suc c) e = ap₂ (λ x y. x + y) (total-same f g c (λ i h. e i 
 leaf-area : (s : List ℕ) → Good s → (i k : ℕ) (t : Triangle) → LeafAt s i 0 k → Corners k 0 t → twiceArea t ≡ 2 ^ (17 - depthOf k)
 leaf-area s G i k t a c =
     let l = a .done refl .leaf in
-    ap twiceArea (c .done refl) ∙ area-is k (l .low) (omega (arith, G .fits .high, depth-le k (deepOf s) (leaf-in-range s G k l .high)))
+    ap twiceArea (c .done refl) ∙ area-is k (l .low) (omega (arith, fits-small (G .fits), depth-le k (deepOf s) (leaf-in-range s G k l .high)))
 
 panel-read : (s : List ℕ) → Good s → Read s
 panel-read s G = record {
@@ -165,7 +167,7 @@ panel-read s G = record {
   back = number-of-leaf-at s;
   forth = leaf-at-number-of s;
   counts = λ c o. (o .done refl, o .done refl ∙ word-all (deepOf s) s (G .right .sums));
-  same = λ t T e. bytes-same G T (G .fits .long ∙ ap (λ (D : ℕ). 2 ^ (D - 1)) e ∙ sym (T .fits .long));
+  same = λ t T e. bytes-same G T (G .fits .long ∙ ap sizeOf e ∙ sym (T .fits .long));
   areas = λ leaf corners L.
       total-same (λ i. twiceArea (corners i)) (λ i. 2 ^ (17 - depthOf (leaf i))) (leafCount s)
       (λ i h. leaf-area s G i (leaf i) (corners i) (L i h .0) (L i h .1))
@@ -174,7 +176,7 @@ panel-read s G = record {
 
 node-placed : (n : ℕ) → KnownNode n → Placed n
 node-placed n k =
-    let d : depthOf n ≤ 17 = omega (arith, depth-le n 14 (k .high)) in record {
+    let d : depthOf n ≤ 17 = known-shallow k in record {
       edge-back = edge-mutual n;
       left-back = λ y. left-right n y (k .low);
       across = edge-across n (k .low);

@@ -17,10 +17,11 @@ use Rattle.tables.proofs.Tables.{says-no}
 use Rattle.words.specs.Words.{word, leafBit}
 use Rattle.sums.specs.Sums.{SumsRight, Right}
 use Rattle.cuts.specs.Cuts.{Cut, GoodCuts, Leaf}
-use Rattle.panel.specs.Panels.{Fits, deepOf, RightLength, CutOf, Good}
+use Rattle.panel.specs.Panels.{sizeOf, Fits, deepOf, RightLength, CutOf, Good}
 use Rattle.cuts.proofs.Places.{cutPlace, cut-low, cut-depth, cut-range, cut-set}
 use Rattle.cuts.proofs.Naming.{placed}
 use Rattle.cuts.proofs.ForcedCuts.{Forced}
+use Rattle.panel.proofs.Lengths.{fits-small}
 use Rattle.evidence.proofs.Saying.{says-same, says-le, says-lt, imply, says-iff, says-and, says-or, says-imply, says-not, _and_, upTo, shows-all, Decided}
 
 -- ---- cuts
@@ -84,12 +85,12 @@ says-forced (suc d) k n =
 -- ---- panels
 
 unfoldable pub fitsIn : List ℕ → ℕ → Bool
-fitsIn s D = leb leastDepth D && leb D greatestDepth && eqb (length s) (2 ^ (D - 1))
+fitsIn s D = leb leastDepth D && leb D greatestDepth && eqb (length s) (sizeOf D)
 
 fits-shown : (s : List ℕ) (D : ℕ) → So (fitsIn s D) → Fits s D
 unfolding fitsIn
 fits-shown s D e =
-    let ((low, high), long) = (leb-true leastDepth D and leb-true D greatestDepth and eqb-true (length s) (2 ^ (D - 1))) e in
+    let ((low, high), long) = (leb-true leastDepth D and leb-true D greatestDepth and eqb-true (length s) (sizeOf D)) e in
     record { low = low; high = high; long = long }
 
 unfoldable pub sumsIn : ℕ → List ℕ → Bool
@@ -115,7 +116,7 @@ abbrev pub cutOf : List ℕ → ℕ → Bool
 cutOf s = cutIn (deepOf s) (leafBit (deepOf s) s)
 
 pub decided : {s : List ℕ} → RightLength s → Decided (2 ^ deepOf s) (CutOf s) (cutOf s)
-decided {s} r = decided-cuts (deepOf s) (leafBit (deepOf s) s) (omega (arith, r .high))
+decided {s} r = decided-cuts (deepOf s) (leafBit (deepOf s) s) (fits-small r)
 
 unfoldable pub goodPanel : List ℕ → Bool
 goodPanel s = fitsIn s (deepOf s) && rightIn (deepOf s) s && eqb (leafBit (deepOf s) s 0) 1 && goodIn (2 ^ deepOf s) (cutOf s)

@@ -17,6 +17,7 @@ use Rattle.panel.specs.Calls.{SplitAt, Together, MergeAt}
 use Rattle.cuts.proofs.Places.{cut-low}
 use Rattle.cuts.proofs.ForcedCuts.{smallest-of}
 use Rattle.cuts.proofs.TakingBack.{Kept, Mergeable, smallest-kept, split-mergeable, split-back, back-leaf}
+use Rattle.panel.proofs.Lengths.{fits-small}
 use Rattle.panel.proofs.SameBytes.{dec-cuts, deep-same, bytes-same}
 use Rattle.cutting.proofs.AtWork.{merging-deep, together-mergeable, mergeable-together}
 
@@ -77,5 +78,5 @@ module _ {s t : List ℕ} (G : Good s) {k : ℕ} (l : LeafOf s k) (d : 1 < depth
     long = sym (m .long);
     cuts =
         smallest-of (λ n. (⊎-map (m .cuts n .1) (λ e. e), ⊎-map (m .cuts n .0) (λ e. e)))
-        (smallest-kept (CutOf s) (G .cuts) (λ c. omega (arith, cut-low (deepOf s) (leafBit (deepOf s) s) (omega (arith, G .fits .high)) 0 c)) (k / 2) parent);
+        (smallest-kept (CutOf s) (G .cuts) (λ c. omega (arith, cut-low (deepOf s) (leafBit (deepOf s) s) (omega (arith, fits-small (G .fits))) 0 c)) (k / 2) parent);
   }

@@ -4,16 +4,17 @@ use mathlib.Core.List.{List}
 use mathlib.Core.Bool.{Bool}
 use Prim.Native.Nat.{ℕ, _+_, _-_, _*_, _/_, _%_, _^_, _≤_, _<_}
 use native.Mathlib.Omega.{arith}
-use lib.Pow.{pow-mono}
 use Rattle.nodes.specs.Depth.{depthOf}
 use Rattle.tables.specs.Table.{Says}
 use Rattle.nodes.proofs.Depths.{At, at-below, at-depth, depth-le, ancestor, at-ancestor}
+use Rattle.nodes.proofs.Limits.{node-small}
 use Rattle.panel.specs.Panels.{deepOf, Good, InRange, LeafOf, numberIn, leafCount}
 use Rattle.descents.specs.inner.Descents.{OnWay, Spot}
 use Rattle.leaves.specs.inner.Ways.{OnFirstWay, Ranged}
 use Rattle.sums.proofs.Counts.{at-first}
 use Rattle.cuts.proofs.CutBits.{ancestor-first}
 use Rattle.cuts.proofs.Covering.{ancestor-is}
+use Rattle.panel.proofs.Lengths.{fits-small}
 use Rattle.panel.proofs.GoodPanels.{covers, number-root}
 use Rattle.descents.proofs.Downward.{root-spot}
 
@@ -48,7 +49,7 @@ module _ (s : List ℕ) (G : Good s) (k : ℕ) (R : InRange s k) where
     unfolding node
     shifted =
         ap₂ (λ x y. k * 2 ^ (x - y) % 2 ^ 32) e f
-        ∙ omega (arith, at-below node-at, pow-mono {i = deepOf s + 1} {j = 15} (omega (arith, G .fits .high)))
+        ∙ omega (arith, node-small (fits-small (G .fits)) (at-below node-at))
 
     -- the way there starts at node 1
     root : {n : ℕ} → n ≡ k * 2 ^ (D - d) % 2 ^ 32 → n / 2 ^ D ≡ 1

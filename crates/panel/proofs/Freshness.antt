@@ -22,7 +22,7 @@ use Rattle.panel.specs.Calls.{Fresh}
 use Rattle.cuts.specs.inner.Steps.{CutPlace}
 use Rattle.panel.specs.inner.Opening.{Cleared}
 use Rattle.cuts.proofs.Places.{cutPlace, cut-place, cut-set}
-use Rattle.panel.proofs.Lengths.{fits-deep, fits-right, fits-room}
+use Rattle.panel.proofs.Lengths.{fits-small, fits-deep, fits-right, fits-room}
 
 -- ---- the only cut
 
@@ -130,10 +130,10 @@ module _ {D : ℕ} {s z : List ℕ} (F : Fits s D) (C : Cleared s z) where
       fits = fits-right t D fits-t;
       right = subst (λ d. Right d t) (sym deep) (summed-right S (spare 0 (omega arith)) (spare 1 (omega arith)) depth-word);
       first = subst (λ d. leafBit d t 0 ≡ 1) (sym deep) (summed-leaf S 0 ∙ leaf-start);
-      cuts = subst (λ d. GoodCuts (Cut d (leafBit d t))) (sym deep) (root-good D (leafBit D t) (omega (arith, F .low)) (omega (arith, F .high)) one none);
+      cuts = subst (λ d. GoodCuts (Cut d (leafBit d t))) (sym deep) (root-good D (leafBit D t) (omega (arith, F .low)) (fits-small F) one none);
     };
     deep = deep;
-    cuts = subst (λ d. (n : ℕ) → Cut d (leafBit d t) n ↔ (n ≡ 1)) (sym deep) (only-root D (leafBit D t) (omega (arith, F .low)) (omega (arith, F .high)) one none);
+    cuts = subst (λ d. (n : ℕ) → Cut d (leafBit d t) n ↔ (n ≡ 1)) (sym deep) (only-root D (leafBit D t) (omega (arith, F .low)) (fits-small F) one none);
   }
     where
       fits-t : Fits t D

@@ -12,6 +12,7 @@ use Rattle.sums.proofs.Counts.{byNode, sum, leaf-bits, word-sum, word-all}
 use Rattle.cuts.specs.Cuts.{CoverOnce, placeOf}
 use Rattle.panel.specs.Panels.{deepOf, CutOf, Good, InRange, LeafOf, numberIn, leafCount}
 use Rattle.panel.specs.Calls.{LeafNumbered}
+use Rattle.panel.proofs.Lengths.{fits-small}
 use Rattle.cuts.proofs.Leaves.{GoodBits, cover-once, leaf-range}
 use Rattle.cuts.proofs.Numbering as numbering
 use Rattle.cuts.proofs.Descent as descent
@@ -19,7 +20,7 @@ use Rattle.cuts.proofs.Areas.{total, shares}
 
 module _ (s : List ℕ) (G : Good s) where
   pub good-bits : GoodBits (deepOf s) (leafBit (deepOf s) s)
-  good-bits = record { deep = omega (arith, G .fits .high); small = leaf-bits (deepOf s) s; start = G .first; cuts = G .cuts }
+  good-bits = record { deep = omega (arith, fits-small (G .fits)); small = leaf-bits (deepOf s) s; start = G .first; cuts = G .cuts }
 
   word-is : (d j n : ℕ) → At d n → d + j ≡ deepOf s → word (deepOf s) s n ≡ sum (byNode (deepOf s) (leafBit (deepOf s) s)) j n
   word-is = word-sum (deepOf s) s (G .right .sums)
@@ -103,4 +104,4 @@ module _ (s : List ℕ) (G : Good s) where
   pub leaf-areas : (leaf : ℕ → ℕ) → ((i : ℕ) → i < leafCount s → LeafNumbered s i (leaf i)) → total (λ i. 2 ^ (17 - depthOf (leaf i))) (leafCount s) ≡ 131072
   leaf-areas leaf L =
       ap (total (λ i. 2 ^ (17 - depthOf (leaf i)))) count-is
-      ∙ shares (deepOf s) (leafBit (deepOf s) s) good-bits leaf (λ i h. let m = L i (omega (arith, count-is)) in (m .leaf, m .number)) 17 (omega (arith, G .fits .high))
+      ∙ shares (deepOf s) (leafBit (deepOf s) s) good-bits leaf (λ i h. let m = L i (omega (arith, count-is)) in (m .leaf, m .number)) 17 (fits-small (G .fits))

@@ -1,61 +1,85 @@
--- A right length is a power of two within the limits, its depth is that power's, and it has room for the words.
-use mathlib.Core.Path.{_≡_, sym, ap, _∙_, subst, subst⁻¹}
+-- A right length is the one that belongs to a depth within the limits, that depth comes from it, and it has room for the words.
+use mathlib.Core.Path.{_≡_, refl, sym, ap, _∙_, subst, subst⁻¹}
+use mathlib.Core.Logic.{_≢_, _↔_}
 use mathlib.Core.List.{List}
-use Prim.Native.Nat.{ℕ, zero, suc, _+_, _-_, _*_, _^_, _≤_}
+use Prim.Native.Nat.{ℕ, zero, suc, _+_, _-_, _*_, _^_, _≤_, _<_}
+use native.Mathlib.Nat.{pow-suc}
+use native.Mathlib.Decide.{decLe}
 use native.Mathlib.Omega.{arith}
 use lib.ListN.{length}
 use lib.Pow.{pow-add, pow-mono, pow-pos}
 use Rattle.nodes.specs.Depth.{depthOf}
 use Rattle.nodes.specs.Limits.{leastDepth, greatestDepth}
-use Rattle.nodes.proofs.Depths.{pow-next, at-depth, at-from, depth-is, depth-le}
+use Rattle.nodes.proofs.Depths.{depth-is}
+use Rattle.nodes.proofs.Limits.{greatest-small}
 use Rattle.words.specs.Words.{Room}
-use Rattle.panel.specs.Panels.{Fits, deepOf, RightLength, Good}
+use Rattle.panel.specs.Panels.{sizeOf, Fits, deepOf, RightLength, Good}
+
+-- ---- the length of a panel of depth D
+
+pub size-is : (D : ℕ) → D ≢ 0 → 2 ^ (D - 1) ≡ sizeOf D
+size-is zero z = absurd (z refl)
+size-is (suc d) z = ap (λ x. 2 ^ x) (let e : suc d - 1 ≡ d = omega arith in e)
+
+-- its depth is one less than D
+pub size-deep : (D : ℕ) → 1 ≤ D → depthOf (sizeOf D) + 1 ≡ D
+size-deep zero l = absurd (omega arith)
+size-deep (suc d) l = omega (arith, depth-is {d = d} {n = 2 ^ d} (omega (arith, pow-suc 2 d, pow-pos d)))
+
+-- it is just long enough for the words
+pub size-bits : (D : ℕ) → 1 ≤ D → 8 * sizeOf D ≡ 2 ^ (D + 2)
+size-bits zero l = absurd (omega arith)
+size-bits (suc d) l = sym (ap (λ x. 2 ^ x) (let e : suc d + 2 ≡ d + 3 = omega arith in e) ∙ pow-add 2 d 3 ∙ omega arith)
+
+size-next : (D : ℕ) → sizeOf D < sizeOf (suc D)
+size-next zero = omega arith
+size-next (suc d) = omega (arith, pow-suc 2 d, pow-pos d)
+
+size-mono : (D E : ℕ) → D ≤ E → sizeOf D ≤ sizeOf E
+size-mono zero E l = omega arith
+size-mono (suc d) zero l = absurd (omega arith)
+size-mono (suc d) (suc e) l = pow-mono (omega arith)
+
+-- deeper is longer
+pub size-order : (D E : ℕ) → (D ≤ E) ↔ (sizeOf D ≤ sizeOf E)
+size-order D E = (size-mono D E, λ l. go l (decLe D E))
+  where
+    go : sizeOf D ≤ sizeOf E → Dec (D ≤ E) → D ≤ E
+    go l (yes h) = h
+    go l (no h) = absurd (omega (arith, size-next E, size-mono (suc E) D (omega arith)))
+
+-- ---- bytes of that length
+
+pub fits-small : {s : List ℕ} {D : ℕ} → Fits s D → D ≤ 17
+fits-small f = omega (arith, f .high, greatest-small)
 
 -- a length that fits a depth fits no other
 pub fits-deep : (s : List ℕ) (D : ℕ) → Fits s D → deepOf s ≡ D
-fits-deep s D f =
-    let e : depthOf (length s) ≡ D - 1 = ap depthOf (f .long) ∙ depth-is {d = D - 1} {n = 2 ^ (D - 1)} (at-from (omega arith) (omega (arith, pow-next (D - 1), pow-pos (D - 1)))) in
-    omega (arith, f .low)
+fits-deep s D f = ap (λ n. depthOf n + 1) (f .long) ∙ size-deep D (omega (arith, f .low))
 
 pub fits-right : (s : List ℕ) (D : ℕ) → Fits s D → RightLength s
 fits-right s D f = subst (Fits s) (sym (fits-deep s D f)) f
 
+pub fits-bits : (s : List ℕ) (D : ℕ) → Fits s D → 8 * length s ≡ 2 ^ (D + 2)
+fits-bits s D f = ap (λ n. 8 * n) (f .long) ∙ size-bits D (omega (arith, f .low))
+
 pub fits-room : (s : List ℕ) (D : ℕ) → Fits s D → Room D s
-fits-room s D f =
-    let e : 2 ^ (D + 2) ≡ 2 ^ (D - 1) * 2 ^ 3 = ap (λ x. 2 ^ x) (let g : D + 2 ≡ D - 1 + 3 = omega (arith, f .low) in g) ∙ pow-add 2 (D - 1) 3 in
-    record { low = f .low; high = omega (arith, f .high); long = omega (arith, f .long) }
+fits-room s D f = record { low = f .low; high = fits-small f; long = omega (arith, fits-bits s D f) }
 
 pub good-room : (s : List ℕ) → Good s → {D : ℕ} → D ≡ deepOf s → Room D s
 good-room s G deep = subst⁻¹ (λ x. Room x s) deep (fits-room s (deepOf s) (G .fits))
 
--- the same as a bound in both directions, as the last bit of a panel is the last of its words
-pub fits-bits : (s : List ℕ) (D : ℕ) → Fits s D → 8 * length s ≡ 2 ^ (D + 2)
-fits-bits s D f =
-    let e : 2 ^ (D + 2) ≡ 2 ^ (D - 1) * 2 ^ 3 = ap (λ x. 2 ^ x) (let g : D + 2 ≡ D - 1 + 3 = omega (arith, f .low) in g) ∙ pow-add 2 (D - 1) 3 in
-    omega (arith, f .long)
-
 -- ---- what the code tests
 
-pub length-least : (s : List ℕ) → RightLength s → 2 ^ (leastDepth - 1) ≤ length s
-length-least s r = omega (arith, r .long, pow-mono {i = 2} {j = deepOf s - 1} (omega (arith, r .low)))
+pub length-least : (s : List ℕ) → RightLength s → sizeOf leastDepth ≤ length s
+length-least s r = omega (arith, r .long, size-order leastDepth (deepOf s) .0 (r .low))
 
-pub length-greatest : (s : List ℕ) → RightLength s → length s ≤ 2 ^ (greatestDepth - 1)
-length-greatest s r = omega (arith, r .long, pow-mono {i = deepOf s - 1} {j = 13} (omega (arith, r .high)))
+pub length-greatest : (s : List ℕ) → RightLength s → length s ≤ sizeOf greatestDepth
+length-greatest s r = omega (arith, r .long, size-order (deepOf s) greatestDepth .0 (r .high))
 
-pub length-power : (s : List ℕ) → RightLength s → length s ≡ 2 ^ depthOf (length s)
-length-power s r = r .long ∙ ap (λ x. 2 ^ x) (let e : depthOf (length s) + 1 - 1 ≡ depthOf (length s) = omega arith in e)
-
-pub length-right : (s : List ℕ) → 2 ^ (leastDepth - 1) ≤ length s → length s ≤ 2 ^ (greatestDepth - 1) → length s ≡ 2 ^ depthOf (length s) → RightLength s
-length-right s l h e =
-    let a = at-depth {n = length s} (omega arith) in
-    let low : 2 ≤ depthOf (length s) = deep-low (depthOf (length s)) e in
-    record {
-      low = omega arith;
-      high = omega (arith, depth-le (length s) 13 (omega arith));
-      long = e ∙ ap (λ x. 2 ^ x) (let f : depthOf (length s) ≡ depthOf (length s) + 1 - 1 = omega arith in f);
-    }
-  where
-    deep-low : (d : ℕ) → length s ≡ 2 ^ d → 2 ≤ d
-    deep-low zero f = absurd (omega arith)
-    deep-low (suc zero) f = absurd (omega arith)
-    deep-low (suc (suc d)) f = omega arith
+pub length-right : (s : List ℕ) → sizeOf leastDepth ≤ length s → length s ≤ sizeOf greatestDepth → length s ≡ sizeOf (deepOf s) → RightLength s
+length-right s l h e = record {
+  low = size-order leastDepth (deepOf s) .1 (omega arith);
+  high = size-order (deepOf s) greatestDepth .1 (omega arith);
+  long = e;
+}

@@ -2,11 +2,11 @@
 use mathlib.Core.Path.{_≡_, sym, ap, _∙_, subst}
 use mathlib.Core.Logic.{Iff·symm, Iff·trans}
 use mathlib.Core.List.{List, [], _∷_}
-use Prim.Native.Nat.{ℕ, _-_, _^_, _<_}
+use Prim.Native.Nat.{ℕ, _<_}
 use Rattle.bits.proofs.Laws.{Bytes}
 use Rattle.tables.specs.Table.{Row, unless, Answers, Outcome}
 use Rattle.tables.proofs.Tables.{answers-one, outcome-one}
-use Rattle.panel.specs.Panels.{Good, leafCount}
+use Rattle.panel.specs.Panels.{sizeOf, Good, leafCount}
 use Rattle.panel.specs.Calls.{panelRows, Judged, Count, LeafBits, LeafNumbered, LeafAt, NumberOf, Fresh, Open, SplitAt, Split, MergeAt, Merge}
 use Rattle.cuts.proofs.ForcedCuts.{smallest-one}
 use Rattle.panel.proofs.LeafRows.{numberRows, good-past}
@@ -53,7 +53,7 @@ with-bytes b o = known o (λ z d. (b, d))
 fresh-same : (D : ℕ) (t u : List ℕ) → Bytes t × Fresh D t → Bytes u × Fresh D u → t ≡ u
 fresh-same D t u (bt, ft) (bu, fu) =
     bytes-same (ft .good) (fu .good)
-    (ft .good .fits .long ∙ ap (λ (x : ℕ). 2 ^ (x - 1)) (ft .deep ∙ sym (fu .deep)) ∙ sym (fu .good .fits .long)) bt bu
+    (ft .good .fits .long ∙ ap sizeOf (ft .deep ∙ sym (fu .deep)) ∙ sym (fu .good .fits .long)) bt bu
     (λ n h. Iff·trans (ft .cuts n) (Iff·symm (fu .cuts n)))
 
 pub open-one : (s : List ℕ) (D n m : ℕ) (t u : List ℕ) → Bytes t → Bytes u → Open s D n t → Open s D m u → (n ≡ m) × (t ≡ u)

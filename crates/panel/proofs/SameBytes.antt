@@ -15,7 +15,7 @@ use Rattle.sums.proofs.Counts.{leaf-bits}
 use Rattle.sums.proofs.Unique.{right-one}
 use Rattle.cuts.specs.Cuts.{Cut}
 use Rattle.panel.specs.Panels.{deepOf, CutOf, Good}
-use Rattle.panel.proofs.Lengths.{fits-bits}
+use Rattle.panel.proofs.Lengths.{fits-small, fits-bits}
 use Rattle.cuts.proofs.Places.{dec-cut}
 use Rattle.cuts.proofs.OneBit.{bits-same}
 
@@ -29,7 +29,7 @@ cut-of s t e n = (λ c. subst (λ D. Cut D (leafBit D t) n) (deep-same s t e) c,
 
 -- whether a node is cut is decided
 pub dec-cuts : {t : List ℕ} → Good t → (n : ℕ) → Dec (CutOf t n)
-dec-cuts {t} G = dec-cut (deepOf t) (leafBit (deepOf t) t) (omega (arith, G .fits .high))
+dec-cuts {t} G = dec-cut (deepOf t) (leafBit (deepOf t) t) (omega (arith, fits-small (G .fits)))
 
 -- behind the last byte all bits are 0
 past : (bs : List ℕ) (p : ℕ) → 8 * length bs ≤ p → bit bs p ≡ 0
@@ -38,7 +38,7 @@ past bs p h = omega (arith, ap (λ (x : ℕ). digit x (p % 8)) (List·getD-eq-de
 pub bytes-same : {s t : List ℕ} → Good s → Good t → length s ≡ length t → Bytes s → Bytes t → ((n : ℕ) → 1 ≤ n → (CutOf s n ↔ CutOf t n)) → s ≡ t
 bytes-same {s} {t} S T e bs bt c =
     right-one bs bt e (S .right) (subst (λ D. Right D t) d (T .right))
-    (bits-same (deepOf s) (omega (arith, S .fits .high)) (leafBit (deepOf s) s) (leafBit (deepOf s) t) (leaf-bits (deepOf s) s) (leaf-bits (deepOf s) t)
+    (bits-same (deepOf s) (omega (arith, fits-small (S .fits))) (leafBit (deepOf s) s) (leafBit (deepOf s) t) (leaf-bits (deepOf s) s) (leaf-bits (deepOf s) t)
     (S .first ∙ sym (subst (λ D. leafBit D t 0 ≡ 1) d (T .first))) (λ n h. Iff·trans (c n h) (cut-of s t (sym e) n)))
     (λ p h. past s p (omega (arith, fits-bits s (deepOf s) (S .fits))) ∙ sym (past t p (omega (arith, fits-bits s (deepOf s) (S .fits)))))
   where

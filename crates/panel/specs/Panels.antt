@@ -1,7 +1,7 @@
 -- When a panel is good.
 use mathlib.Core.Path.{_≡_}
 use mathlib.Core.List.{List}
-use Prim.Native.Nat.{ℕ, _+_, _-_, _*_, _^_, _≤_, _<_}
+use Prim.Native.Nat.{ℕ, zero, suc, _+_, _-_, _*_, _^_, _≤_, _<_}
 use lib.ListN.{length, take, drop}
 use Rattle.nodes.specs.Depth.{depthOf}
 use Rattle.nodes.specs.Limits.{leastDepth, greatestDepth}
@@ -9,11 +9,16 @@ use Rattle.words.specs.Words.{word, leafBit}
 use Rattle.sums.specs.Sums.{Right}
 use Rattle.cuts.specs.Cuts.{Cut, GoodCuts, Leaf, leafNumber}
 
--- a panel of depth D, from 3 to 14, is 2 ^ (D - 1) bytes
+-- the length of a panel of depth D: 2 ^ (D - 1) bytes
+abbrev pub sizeOf : ℕ → ℕ
+sizeOf zero = 0
+sizeOf (suc d) = 2 ^ d
+
+-- a panel of depth D, within the limits, is as many bytes
 pub record Fits (s : List ℕ) (D : ℕ) : Type 0 where
   pub low : leastDepth ≤ D
   pub high : D ≤ greatestDepth
-  pub long : length s ≡ 2 ^ (D - 1)
+  pub long : length s ≡ sizeOf D
 
 -- D comes from the length
 abbrev pub deepOf : List ℕ → ℕ

@@ -1,4 +1,6 @@
 // Judging a lent panel: its length, its words, its cuts.
+use crate::sizes::GREATEST_SIZE;
+use crate::sizes::size;
 use answers::Answer;
 use answers::Refusal;
 use nodes::Node;
@@ -11,17 +13,17 @@ pub fn depth_of(panel: &[u8]) -> usize
     ensures { λ r. ⌜ Deep (now (panel .entry)) r ⌝ }
 {
     let n = panel.len();
-    if n < 1usize << (nodes::LEAST_DEPTH - 1) {
+    if n < size(nodes::LEAST_DEPTH) {
         return 0;
     }
-    if 1usize << (nodes::GREATEST_DEPTH - 1) < n {
+    if GREATEST_SIZE < n {
         return 0;
     }
-    let d = nodes::depth(Node(n as u32)) as usize;
-    if n != 1usize << d {
+    let deep = nodes::depth(Node(n as u32)) as usize + 1;
+    if n != size(deep) {
         return 0;
     }
-    d + 1
+    deep
 }
 
 // What every call on a panel begins with: the depth of a good panel, or why it is refused.

@@ -1,4 +1,5 @@
 // Opening a lent panel.
+use crate::sizes::size;
 use answers::Answer;
 use answers::Refusal;
 ghost use Rattle.answers.specs.Refusals.{answerNumber};
@@ -18,7 +19,7 @@ fn fits(panel: &[u8], depth: u32) -> bool
     if nodes::GREATEST_DEPTH < deep {
         return false;
     }
-    panel.len() == 1usize << (deep - 1)
+    panel.len() == size(deep)
 }
 
 // Writes zero to every byte.

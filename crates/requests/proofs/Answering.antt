@@ -2,7 +2,7 @@
 use mathlib.Core.Path.{_≡_, refl, sym, subst, subst₂}
 use mathlib.Core.Logic.{_≢_, inl}
 use mathlib.Core.List.{List, [], _++_}
-use Prim.Native.Nat.{ℕ, _≤_, _<_}
+use Prim.Native.Nat.{ℕ, zero, suc, _≤_, _<_}
 use native.Mathlib.Omega.{arith}
 use lib.ListN.{length, take, drop}
 use Rattle.nodes.specs.Limits.{greatestDepth}
@@ -13,12 +13,15 @@ use Rattle.answers.specs.declared.Answer.the-variants.{Done, No}
 use Rattle.answers.specs.Refusals.{refusalNumber, answerNumber}
 use Rattle.answers.proofs.Refusing.{refusal-pos, arm-done, arm-no}
 use Rattle.tables.proofs.Tables.{is-refused}
-use Rattle.panel.specs.Panels.{Fits, deepOf, Good}
+use Rattle.panel.specs.Panels.{sizeOf, Fits, deepOf, Good}
 use Rattle.panel.specs.Calls.{Open, Split, Merge}
-use Rattle.requests.specs.Requests.{sizeOf, panelIn, Called, Step}
+use Rattle.panel.proofs.Lengths.{fits-small}
+use Rattle.requests.specs.Requests.{panelIn, changed, Called, Step}
 use Rattle.records.specs.Records.{kind, number, Fine}
 use Rattle.requests.specs.Requests.Called.{opened, refused, split, merge}
 use Rattle.requests.specs.Requests.Step.{call}
+use Rattle.requests.specs.inner.Changing.{Change}
+use Rattle.requests.specs.inner.Changing.Change.{split as splits, merge as merges}
 use Rattle.requests.specs.inner.Holding.{Holds}
 use Rattle.requests.proofs.Parts.{no-room, none-right, same-changed, held-fits, held-inside}
 
@@ -53,30 +56,36 @@ module _ (k D n : ℕ) (b t : List ℕ) (e : n ≡ sizeOf k) where
 
 -- ---- split and merge
 
+pub kind-split : {s t : List ℕ} {k c n : ℕ} → c ≡ 1 → Split s k n t → Change s k c n t
+kind-split {s} {t} {k} {n = n} e p = subst (λ x. Change s k x n t) (sym e) (splits p)
+
+pub kind-merge : {s t : List ℕ} {k c n : ℕ} → c ≡ 2 → Merge s k n t → Change s k c n t
+kind-merge {s} {t} {k} {n = n} e p = subst (λ x. Change s k x n t) (sym e) (merges p)
+
+called-change : {k D c m : ℕ} {b t : List ℕ} → Change (panelIn D b) k c m t → Called k D b c m D (changed D b t)
+called-change (splits p) = split p
+called-change (merges p) = merge p
+
 -- no panel is open, and no bytes have no right length
-module _ (k D : ℕ) (b : List ℕ) (e : D ≡ 0) where
-  pub none-split : Called k D b 1 1 D b
-  none-split =
-      subst (λ x. Called k x b 1 1 x b) (sym e)
-      (split {t = []} (is-refused (λ y. omega arith) (inl (none-right, refl)) refl))
+none-change : (c k : ℕ) → 1 ≤ c → c ≤ 2 → Change [] k c 1 []
+none-change zero k l h = absurd (omega arith)
+none-change (suc zero) k l h = splits (is-refused (λ y. omega arith) (inl (none-right, refl)) refl)
+none-change (suc (suc zero)) k l h = merges (is-refused (λ y. omega arith) (inl (none-right, refl)) refl)
+none-change (suc (suc (suc c))) k l h = absurd (omega arith)
 
-  pub none-merge : Called k D b 2 1 D b
-  none-merge =
-      subst (λ x. Called k x b 2 1 x b) (sym e)
-      (merge {t = []} (is-refused (λ y. omega arith) (inl (none-right, refl)) refl))
+pub none-called : (c k D : ℕ) (b : List ℕ) → 1 ≤ c → c ≤ 2 → D ≡ 0 → Called k D b c 1 D b
+none-called c k D b l h e = subst (λ x. Called k x b c 1 x b) (sym e) (called-change (none-change c k l h))
 
-module _ (k D n m : ℕ) (b t : List ℕ) (e : n ≡ sizeOf D) where
-  pub split-lent : Split (take n b) k m t → Called k D b 1 m D (t ++ drop n b)
-  split-lent p = subst (λ x. Split (take x b) k m t → Called k D b 1 m D (t ++ drop x b)) (sym e) split p
-
-  pub merge-lent : Merge (take n b) k m t → Called k D b 2 m D (t ++ drop n b)
-  merge-lent p = subst (λ x. Merge (take x b) k m t → Called k D b 2 m D (t ++ drop x b)) (sym e) merge p
+-- the part that is lent is the panel's
+pub lent-called : {k D c m n : ℕ} {b t : List ℕ} → n ≡ sizeOf D → Change (take n b) k c m t → Called k D b c m D (t ++ drop n b)
+lent-called {k} {D} {c} {m} {b = b} {t = t} e p =
+    subst (λ x. Change (take x b) k c m t → Called k D b c m D (t ++ drop x b)) (sym e) called-change p
 
 -- ---- what the judged calls ask of the part that is lent
 
 module _ {D : ℕ} {b : List ℕ} (h : Holds D b) (z : D ≢ 0) where
-  pub lent-small : D ≤ greatestDepth
-  lent-small = held-fits h z .high
+  pub lent-small : D ≤ 17
+  lent-small = fits-small (held-fits h z)
 
   pub lent-inside : (n : ℕ) → n ≡ sizeOf D → n ≤ length b
   lent-inside n e = omega (arith, held-inside h z)

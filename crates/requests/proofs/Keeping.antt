@@ -9,14 +9,14 @@ use lib.ListN.{length, getD, length-append, List·getD-append}
 use lib.Seq.{getD-append-seam}
 use Rattle.nodes.specs.Depth.{depthOf}
 use Rattle.tables.specs.Table.{Row, Outcome}
-use Rattle.panel.specs.Panels.{Fits, deepOf, Good}
-use Rattle.requests.specs.Requests.{sizeOf, panelIn, changed, Called, Step, Runs, Run}
+use Rattle.panel.specs.Panels.{sizeOf, Fits, deepOf, Good}
+use Rattle.requests.specs.Requests.{panelIn, changed, Called, Step, Runs, Run}
 use Rattle.records.specs.Records.{kind, number, recordAt, Fine}
 use Rattle.requests.specs.Requests.Called.{opened, refused, split, merge}
 use Rattle.requests.specs.Requests.Step.{bad, call}
 use Rattle.requests.specs.Requests.Runs.{none, more}
 use Rattle.requests.specs.inner.Holding.{Holds}
-use Rattle.requests.proofs.Parts.{fits-size, no-room, none-right, panel-changed, same-changed, held-length}
+use Rattle.requests.proofs.Parts.{no-room, none-right, panel-changed, same-changed, held-length}
 
 -- ---- a refusal changes nothing
 
@@ -61,7 +61,7 @@ held-changed {D = suc d} {b = b} t h f =
 called-holds : {k D c n E : ℕ} {b u : List ℕ} → Holds D b → Called k D b c n E u → Holds E u
 called-holds {k} {b = b} h (opened {t = t} p) =
     let f = p .done refl in
-    holds-changed k b t (f .good) (f .deep) (fits-size (subst (Fits t) (f .deep) (f .good .fits)))
+    holds-changed k b t (f .good) (f .deep) (subst (Fits t) (f .deep) (f .good .fits) .long)
 called-holds h (refused p z) = h
 called-holds h (split {t = t} p) = held-changed t h (λ g. stays g (λ d. (d .good, d .long)) p)
 called-holds h (merge {t = t} p) = held-changed t h (λ g. stays g (λ d. (d .good, d .long)) p)

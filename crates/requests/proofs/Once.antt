@@ -8,9 +8,9 @@ use lib.Seq.{length-take-le}
 use Rattle.bits.specs.Bits.{Bytes}
 use Rattle.tables.specs.Table.{Row, unless}
 use Rattle.tables.proofs.Tables.{answers-one}
-use Rattle.panel.specs.Panels.{Fits}
+use Rattle.panel.specs.Panels.{sizeOf, Fits}
 use Rattle.panel.proofs.Once.{open-one, split-one, merge-one}
-use Rattle.requests.specs.Requests.{sizeOf, panelIn, changed, Called, Step, Runs, Run}
+use Rattle.requests.specs.Requests.{panelIn, changed, Called, Step, Runs, Run}
 use Rattle.records.specs.Records.{recordAt}
 use Rattle.requests.specs.Requests.Called.{opened, refused, split, merge}
 use Rattle.requests.specs.Requests.Step.{bad, call}

@@ -1,31 +1,23 @@
--- The parts of the lent lists that the code hands on: a record of the input, and the panel at the start of the buffer.
-use mathlib.Core.Path.{_≡_, refl, sym, ap, _∙_, subst}
+-- The part of the lent buffer that the code hands on: the panel at its start.
+use mathlib.Core.Path.{_≡_, sym, ap, _∙_, subst}
 use mathlib.Core.Logic.{_≢_}
 use mathlib.Core.List.{List, [], _++_}
-use Prim.Native.Nat.{ℕ, zero, suc, _+_, _-_, _^_, _≤_, _<_, min}
+use Prim.Native.Nat.{ℕ, _≤_, _<_}
 use native.Mathlib.Decide.{decLt}
-use native.Mathlib.Omega.{arith, min-cases}
-use lib.ListN.{length, getD, take, drop, length-take, length-drop, take-append-drop, List·getD-append, List·getD-eq-default}
-use lib.Seq.{take-all, take-length, take-at}
-use lib.Pow.{pow-pos}
+use native.Mathlib.Omega.{arith}
+use lib.ListN.{length, getD, drop, length-take, take-append-drop, List·getD-append, List·getD-eq-default}
+use lib.Seq.{take-at}
 use Rattle.bits.specs.Bits.{Bytes}
-use Rattle.panel.specs.Panels.{Fits, deepOf, RightLength}
-use Rattle.requests.specs.Requests.{sizeOf, panelIn, changed}
+use Rattle.panel.specs.Panels.{sizeOf, Fits, RightLength}
+use Rattle.panel.proofs.Lengths.{length-least}
+use Rattle.requests.specs.Requests.{panelIn, changed}
 use Rattle.requests.specs.inner.Holding.{Holds}
 
 -- ---- the panel at the start of the buffer
 
-pub size-is : (D : ℕ) → D ≢ 0 → 2 ^ (D - 1) ≡ sizeOf D
-size-is zero z = absurd (z refl)
-size-is (suc d) z = ap (λ x. 2 ^ x) (let e : suc d - 1 ≡ d = omega arith in e)
-
--- bytes of a right length are as many as the depth says
-pub fits-size : {s : List ℕ} {D : ℕ} → Fits s D → length s ≡ sizeOf D
-fits-size {s} {D} f = f .long ∙ size-is D (λ z. omega (arith, f .low))
-
 -- no bytes have no right length
 pub none-right : RightLength [] → ⊥
-none-right f = omega (arith, f .long, pow-pos (deepOf [] - 1))
+none-right f = omega (arith, length-least [] f)
 
 module _ (D : ℕ) (b : List ℕ) where
   -- a panel that has as many bytes as its depth says lies inside the buffer
@@ -34,7 +26,7 @@ module _ (D : ℕ) (b : List ℕ) where
 
   -- a buffer that is too short fits no panel of that depth
   pub no-room : length b < sizeOf D → Fits (panelIn D b) D → ⊥
-  no-room h f = omega (arith, inside (fits-size f))
+  no-room h f = omega (arith, inside (f .long))
 
   -- what was put there is there
   pub panel-changed : (t : List ℕ) → length t ≡ sizeOf D → panelIn D (changed D b t) ≡ t
@@ -58,7 +50,7 @@ module _ {D : ℕ} {b : List ℕ} (h : Holds D b) (z : D ≢ 0) where
   held-fits = subst (Fits (panelIn D b)) (sym (h .deep z)) (h .good z .fits)
 
   pub held-length : length (panelIn D b) ≡ sizeOf D
-  held-length = fits-size held-fits
+  held-length = held-fits .long
 
   pub held-inside : sizeOf D ≤ length b
   held-inside = inside D b held-length

@@ -3,18 +3,14 @@
 use mathlib.Core.Path.{_≡_}
 use mathlib.Core.Logic.{_≢_}
 use mathlib.Core.List.{List, [], _∷_, _++_}
-use Prim.Native.Nat.{ℕ, zero, suc, _^_, min}
+use Prim.Native.Nat.{ℕ, min}
 use lib.ListN.{length, take, drop}
 use Rattle.bits.specs.Bits.{Bytes}
 use Rattle.records.specs.Records.{kind, number, Fine, recordAt, recordCount}
+use Rattle.panel.specs.Panels.{sizeOf}
 use Rattle.panel.specs.Calls.{Open, Split, Merge}
 
 -- ---- one record
-
--- the bytes of a panel of depth D
-abbrev pub sizeOf : ℕ → ℕ
-sizeOf zero = 0
-sizeOf (suc d) = 2 ^ d
 
 -- the bytes that a panel of depth D takes in the buffer, or all where they are too few
 abbrev pub panelIn : ℕ → List ℕ → List ℕ

@@ -4,4 +4,3 @@ pub mod running; // the call `run`
 
 pub use running::Ran;
 pub use running::run;
-pub use stepping::size;

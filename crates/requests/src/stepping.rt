@@ -2,28 +2,19 @@
 use answers::Answer;
 use answers::Refusal;
 use nodes::Node;
+use panel::size;
 ghost use mathlib.Core.Path.{_≡_};
 ghost use Prim.Native.Nat.{_≤_};
-ghost use Rattle.nodes.specs.Limits.{greatestDepth};
 ghost use Rattle.answers.specs.Refusals.{refusalNumber, answerNumber};
-ghost use Rattle.requests.specs.Requests.{sizeOf, Called, Step};
+ghost use Rattle.panel.specs.Panels.{deepOf, Good};
+ghost use Rattle.requests.specs.Requests.{Called, Step};
+ghost use Rattle.requests.specs.inner.Changing.{Change};
 ghost use Rattle.requests.specs.inner.Holding.{Holds};
 
 // What a record comes to: its answer, and the depth of the panel that is open after it, or 0.
 pub struct Stepped {
     pub answer: Answer,
     pub deep: usize,
-}
-
-// The bytes of a panel of this depth.
-pub fn size(deep: usize) -> usize
-    requires { ⌜ deep ≤ greatestDepth ⌝ }
-    ensures { λ r. ⌜ r ≡ sizeOf deep ⌝ }
-{
-    if deep == 0 {
-        return 0;
-    }
-    1usize << (deep - 1)
 }
 
 // What a refused record comes to: the panel before it is kept.
@@ -58,28 +49,27 @@ fn open(buffer: &mut [u8], deep: usize, depth: u32) -> Stepped
     }
 }
 
-// Splits leaf k of the open panel.
-fn split(buffer: &mut [u8], deep: usize, k: u32) -> Answer
-    requires { ⌜ Holds deep (now buffer) ⌝ }
-    ensures { λ r. ⌜ Called k deep (now (buffer .entry)) 1 (answerNumber r) deep (now (buffer .exit)) ⌝ }
+// Splits or merges leaf k of a good panel, by the kind.
+fn change(panel: &mut [u8], deep: usize, kind: u8, k: u32) -> Answer
+    requires { ⌜ Good (now panel) × (deep ≡ deepOf (now panel)) × (1 ≤ kind) × (kind ≤ 2) ⌝ }
+    ensures { λ r. ⌜ Change (now (panel .entry)) k kind (answerNumber r) (now (panel .exit)) ⌝ }
 {
-    if deep == 0 {
-        return Answer::No(Refusal::WrongLength);
+    if kind == 1 {
+        return changes::split(panel, deep, Node(k));
     }
-    let len = size(deep);
-    changes::split(&mut buffer[..len], deep, Node(k))
+    changes::merge(panel, deep, Node(k))
 }
 
-// Merges leaf k of the open panel.
-fn merge(buffer: &mut [u8], deep: usize, k: u32) -> Answer
-    requires { ⌜ Holds deep (now buffer) ⌝ }
-    ensures { λ r. ⌜ Called k deep (now (buffer .entry)) 2 (answerNumber r) deep (now (buffer .exit)) ⌝ }
+// The same of the open panel, which is lent from the buffer.
+fn change_open(buffer: &mut [u8], deep: usize, kind: u8, k: u32) -> Answer
+    requires { ⌜ Holds deep (now buffer) × (1 ≤ kind) × (kind ≤ 2) ⌝ }
+    ensures { λ r. ⌜ Called k deep (now (buffer .entry)) kind (answerNumber r) deep (now (buffer .exit)) ⌝ }
 {
     if deep == 0 {
         return Answer::No(Refusal::WrongLength);
     }
     let len = size(deep);
-    changes::merge(&mut buffer[..len], deep, Node(k))
+    change(&mut buffer[..len], deep, kind, k)
 }
 
 // Does what the record asks, and says what it comes to.
@@ -93,11 +83,7 @@ pub fn step(request: &[u8], buffer: &mut [u8], deep: usize) -> Stepped
         if kind == 0 {
             return open(buffer, deep, number);
         }
-        if kind == 1 {
-            let answer = split(buffer, deep, number);
-            return Stepped { answer, deep };
-        }
-        let answer = merge(buffer, deep, number);
+        let answer = change_open(buffer, deep, kind, number);
         return Stepped { answer, deep };
     }
     kept(deep, Refusal::BadRecord)

@@ -37,7 +37,7 @@ fn print_leaves(panel: &[u8], deep: usize)
 
 fn main() {
     let mut input = [0u8; 8 * records::MOST_RECORDS];
-    let mut buffer = [0u8; 1 << (nodes::GREATEST_DEPTH - 1)];
+    let mut buffer = [0u8; panel::GREATEST_SIZE];
     let mut answers = [0u8; records::MOST_RECORDS];
     let got = io::read_full(STDIN_FILENO, &mut input);
     let ran = requests::run(&input[..got], &mut buffer, &mut answers);
@@ -45,7 +45,7 @@ fn main() {
     print_answers(&answers[..count]);
     let deep = ran.deep;
     if deep != 0 {
-        let len = requests::size(deep);
+        let len = panel::size(deep);
         print_leaves(&buffer[..len], deep);
     }
 }

@@ -1,14 +1,15 @@
 -- The loop's invariant: what is cut so far and what the next node forces are, together, what k forces.
 use mathlib.Core.Path.{sym, ap, _∙_, subst}
 use mathlib.Core.Logic.{_≢_}
-use Prim.Native.Nat.{_+_, _/_, _≤_}
+use Prim.Native.Nat.{_/_, _≤_}
 use native.Mathlib.Omega.{arith}
-use lib.Pow.{pow-mono}
 use borrow.Author.Tests.{not-true, not-false}
 use Rattle.nodes.specs.Depth.{depthOf}
 use Rattle.nodes.specs.Neighbours.{edge}
 use Rattle.nodes.proofs.Edges.{edge-depth}
+use Rattle.nodes.proofs.Limits.{node-small}
 use Rattle.panel.specs.Panels.{deepOf}
+use Rattle.panel.proofs.Lengths.{fits-small}
 use Rattle.cutting.specs.inner.Changing.{CutPut, AtWork, SplitBits}
 use Rattle.cutting.proofs.AtWork.{Splitting, splitting-start, splitting-node, splitting-low, splitting-cut, splitting-last, splitting-step, work-put, room-at, put-at, cut-at, across-above}
 use Rattle.cutting.proofs.cut_chain.Statement.{statement}
@@ -56,7 +57,7 @@ edge-of-requires c κs =
     let l = c .before .before .before .before .before .before .before in
     let a = l .before .before in
     let n = splitting-node (a .pre .0) (l .loop .inv) in
-    (low (c .before .before .before .before), omega (arith, n .high, a .pre .0 .fits .high, pow-mono {i = deepOf (a .args .panel .now) + 1} {j = 18} (omega (arith, a .pre .0 .fits .high))))
+    (low (c .before .before .before .before), node-small (fits-small (a .pre .0 .fits)) (n .high))
 
 -- without a neighbour it is the last
 done : (c : tie.Then2 Inv-loop μ-loop) → let a = c .before .before .before .before .before .before .before .before .before .before .before .args in

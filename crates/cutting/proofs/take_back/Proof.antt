@@ -1,13 +1,13 @@
 -- Two bits are cleared, or one where there is no neighbour.
 use mathlib.Core.Path.{sym, ap, _∙_, subst}
-use Prim.Native.Nat.{_+_}
 use native.Mathlib.Omega.{arith}
-use lib.Pow.{pow-mono}
 use borrow.Author.Needs.{needs}
 use Rattle.nodes.specs.Depth.{depthOf}
 use Rattle.nodes.proofs.Depths.{below-depth}
 use Rattle.nodes.proofs.Edges.{edge-depth}
+use Rattle.nodes.proofs.Limits.{node-small}
 use Rattle.panel.specs.Panels.{deepOf}
+use Rattle.panel.proofs.Lengths.{fits-small}
 use Rattle.cutting.specs.inner.Changing.{CutPut}
 use Rattle.cutting.proofs.AtWork.{work-start, work-put, merging-alone, merging-both, room-at, put-at}
 use Rattle.cutting.proofs.take_back.Statement.{statement}
@@ -20,7 +20,7 @@ put-cut-requires c κs =
 edge-of-requires : tie.Need-edge-of-requires
 edge-of-requires c κs =
     let a = c .before .before .before .before .before in
-    (a .pre .2, omega (arith, below-depth (a .args .q .0) (a .args .deep) (omega (arith, a .pre .2)) (omega (arith, a .pre .3)), pow-mono {i = a .args .deep + 1} {j = 18} (omega (arith, a .pre .1, a .pre .0 .fits .high))))
+    (a .pre .2, node-small (omega (arith, a .pre .1, fits-small (a .pre .0 .fits))) (below-depth (a .args .q .0) (a .args .deep) (omega (arith, a .pre .2)) (omega (arith, a .pre .3))))
 
 -- q's own cut
 own : (c : tie.After-put-cut) → let a = c .before .before .before .args in CutPut (deepOf (a .panel .now)) (a .panel .now) (a .q .0) 0 (c .put-cut .last .0)

@@ -1,7 +1,7 @@
 -- What `known` says is the table's one row.
 use mathlib.Core.Path.{refl}
-use native.Mathlib.Omega.{arith}
 use borrow.Author.Tests.{not-true, not-false}
+use Rattle.nodes.proofs.Limits.{known-small}
 use Rattle.triangles.proofs.Outcomes.{no-such-node, known-node}
 use borrow.Author.Needs.{needs}
 use Rattle.triangles.proofs.neighbours.Statement.{statement}
@@ -11,7 +11,7 @@ returns : tie.Need-returns
 returns c = no-such-node (c .before .known .ensures .no (not-true _ (c .if1 .taken))) refl
 
 triple-of-requires : tie.Need-triple-of-requires
-triple-of-requires c κs = let k = c .before .known .ensures .yes (not-false _ (c .if1 .left)) in omega arith
+triple-of-requires c κs = let k = c .before .known .ensures .yes (not-false _ (c .if1 .left)) in (k .low, known-small k)
 
 returns-2 : tie.Need-returns-2
 returns-2 c = known-node (c .before .before .known .ensures .yes (not-false _ (c .before .if1 .left))) (c .triple-of .ensures)

@@ -3,8 +3,6 @@ use mathlib.Core.Path.{sym, _∙_}
 use native.Mathlib.Omega.{arith}
 use lib.ListN.{length}
 use borrow.Author.Needs.{needs}
-use Prim.Native.Nat.{_-_}
-use Rattle.bits.proofs.Laws.{one-shl}
 use Rattle.tables.proofs.Tables.{says-no, says-equal}
 use Rattle.panel.proofs.opening.fits.Statement.{statement}
 use Rattle.panel.proofs.opening.fits.Tie as tie
@@ -17,9 +15,10 @@ returns-2 c = says-no (λ f. omega (arith, f .high))
 
 returns-3 : tie.Need-returns-3
 returns-3 c =
-    let a = c .before .before .args in
-    let e = one-shl (a .depth - 1) 64 (omega arith) in
-    says-equal (length (a .panel .now)) _ (λ t. record { low = omega arith; high = omega arith; long = t ∙ e }) (λ f. f .long ∙ sym e)
+    let e = c .size .ensures in
+    says-equal (length (c .before .before .before .before .args .panel .now)) _
+    (λ t. record { low = omega arith; high = omega arith; long = t ∙ e })
+    (λ f. f .long ∙ sym e)
 
 pub fits-spec : {M : Type 1} → statement M
-fits-spec = tie.close (tie.spec returns returns-2 (λ c. search needs) (λ c. search needs) returns-3)
+fits-spec = tie.close (tie.spec returns returns-2 (λ c κs. search needs) returns-3)

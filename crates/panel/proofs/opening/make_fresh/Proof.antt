@@ -8,6 +8,7 @@ use Rattle.bits.proofs.Laws.{one-shl}
 use Rattle.words.specs.Words.{putLeafBit, Room}
 use Rattle.sums.specs.Sums.{Summed}
 use Rattle.words.proofs.Rooms.{room-same}
+use Rattle.panel.proofs.Lengths.{fits-small}
 use Rattle.panel.proofs.Freshness.{depth-fits, fresh, half, room}
 use Rattle.panel.proofs.opening.make_fresh.Statement.{statement}
 use Rattle.panel.proofs.opening.make_fresh.Tie as tie
@@ -42,7 +43,7 @@ put-leaf-bit-requires-2 : tie.Need-put-leaf-bit-requires-2
 put-leaf-bit-requires-2 c κs =
     let a = c .before .before .before .before .before .before .before .before .before .before .before .before .before .before in
     let z = c .before .before .before .before .before .before .before .before .before .before .before in
-    (room-3 (c .before .before .before), omega (arith, half-shift (a .args .deep) (omega arith), half (a .pre) (z .clear .ensures), pow-pos (a .args .deep - 1)), omega arith)
+    (room-3 (c .before .before .before), omega (arith, half-shift (a .args .deep) (fits-small (a .pre)), half (a .pre) (z .clear .ensures), pow-pos (a .args .deep - 1)), omega arith)
 
 make-sums-requires : tie.Need-make-sums-requires
 make-sums-requires c κs = room-4 (c .before .before .before)
@@ -59,7 +60,7 @@ returns c =
     fresh (a .pre) (z .clear .ensures)
     (subst (λ x. Summed D x (m .make-sums .last .0))
     (b .put-leaf-bit2 .ensures
-    ∙ ap₂ (λ x p. putLeafBit D x p 1) (l .put-leaf-bit .ensures ∙ ap (λ x. putLeafBit D x 0 1) (w .put-word .ensures)) (half-shift D (omega arith)))
+    ∙ ap₂ (λ x p. putLeafBit D x p 1) (l .put-leaf-bit .ensures ∙ ap (λ x. putLeafBit D x 0 1) (w .put-word .ensures)) (half-shift D (fits-small (a .pre))))
     (m .make-sums .ensures))
 
 pub make-fresh-spec : {M : Type 1} → statement M

@@ -1,5 +1,5 @@
 -- Past the test of a bad record the kind picks the call, and each call has its own contract.
-use mathlib.Core.Path.{sym}
+use mathlib.Core.Path.{refl, sym}
 use native.Mathlib.Omega.{arith}
 use Rattle.records.specs.Records.{Fine}
 use Rattle.requests.specs.Requests.Step.{bad}
@@ -25,23 +25,19 @@ returns c =
     let n = k .before .before in
     step-call (is-fine (n .before)) (n .number-of .ensures) (sym (k .if2 .taken)) (o .«open» .ensures)
 
+change-open-requires : tie.Need-change-open-requires
+change-open-requires c κs =
+    let t = c .before .before .before .before in
+    (t .before .before .before .before .pre, omega (arith, c .before .if2 .left), is-fine t .kinds)
+
 returns-2 : tie.Need-returns-2
 returns-2 c =
-    let s = c .before .before in
-    let k = s .before .before in
-    let n = k .before .before .before in
-    step-call (is-fine (n .before)) (n .number-of .ensures) (sym (k .if3 .taken)) (s .split .ensures)
+    let o = c .before .before in
+    let n = o .before .before .before .before in
+    step-call (is-fine (n .before)) (n .number-of .ensures) refl (o .change-open .ensures)
 
 returns-3 : tie.Need-returns-3
-returns-3 c =
-    let m = c .before .before in
-    let k = m .before .before in
-    let n = k .before .before .before in
-    let f = is-fine (n .before) in
-    step-call f (n .number-of .ensures) (omega (arith, f .kinds, k .if3 .left, k .before .if2 .left)) (m .merge .ensures)
-
-returns-4 : tie.Need-returns-4
-returns-4 c = step-kept (c .kept .ensures) (bad (c .before .before .fine .ensures .no (c .before .if1 .left)))
+returns-3 c = step-kept (c .kept .ensures) (bad (c .before .before .fine .ensures .no (c .before .if1 .left)))
 
 pub step-spec : {M : Type 1} → statement M
 step-spec =
@@ -53,11 +49,8 @@ step-spec =
     (λ c κs. search needs)
     (λ c. search needs)
     returns
-    (λ c κs. search needs)
+    change-open-requires
     (λ c. search needs)
     returns-2
     (λ c κs. search needs)
-    (λ c. search needs)
-    returns-3
-    (λ c κs. search needs)
-    returns-4)
+    returns-3)
