@@ -11,7 +11,8 @@ use lib.Seq.{getD-set-same, getD-set-other, set-out, ext-getD}
 use lib.Arith.{digits-lt}
 use lib.Pow.{shr-lt, pow-pos, pow-add, shr-shr, high, low, mod-pow-add, mod-mod-pow}
 use lib.Pow as P
-use Rattle.bits.specs.Bits.{digit, bit, run, field, withDigit, putBit, putField}
+use Rattle.bits.specs.Bits.{digit, bit, run, field}
+use Rattle.bits.specs.inner.Puts.{withDigit, putBit, putField}
 use Rattle.bits.specs.Little.{little}
 pub use Rattle.bits.specs.Bits.{Bytes}
 

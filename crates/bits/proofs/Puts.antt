@@ -8,7 +8,8 @@ use native.Mathlib.Omega.{arith}
 use lib.ListN.{length}
 use lib.Pow.{shr-shr, mod-mod-pow}
 use lib.Pow as P
-use Rattle.bits.specs.Bits.{field, putBit, putField, Apart}
+use Rattle.bits.specs.Bits.{field}
+use Rattle.bits.specs.inner.Puts.{putBit, putField, Apart}
 use Rattle.bits.proofs.Laws.{le-or-lt, length-putField, field-put-same, field-put-other}
 
 -- a field of w bits and the field of u bits behind it

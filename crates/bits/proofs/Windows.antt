@@ -9,8 +9,10 @@ use lib.ListN.{length, getD, set, drop, length-set}
 use lib.Seq.{getD-set-same, getD-set-other, getD-drop}
 use lib.Arith.{digits-lt}
 use lib.Pow.{pow-pos, pow-add, shr-lt, shr-le}
-use Rattle.bits.specs.Bits.{digit, bit, run, field, putField}
-use Rattle.bits.specs.Little.{little, putLittle}
+use Rattle.bits.specs.Bits.{digit, bit, run, field}
+use Rattle.bits.specs.inner.Puts.{putField}
+use Rattle.bits.specs.Little.{little}
+use Rattle.bits.specs.inner.Puts.{putLittle}
 use Rattle.bits.proofs.Laws.{Out, run-ext, run-digits, digit-shift, digit-mod, digit-high, digit-low, bit-at, little-digit, Bytes, all-set, le-or-lt, ext-bits, length-putField, bytes-putField, bit-in, bit-out, one-shl}
 
 -- n with its w digits from k on set to v

@@ -1,7 +1,7 @@
 -- Bits and fields of bits in a list of bytes, by "Panel bytes".
 use mathlib.Core.List.{List}
 use Prim.Native.Nat.{ℕ, zero, suc, _+_, _*_, _/_, _%_, _^_, _<_}
-use lib.ListN.{getD, set}
+use lib.ListN.{getD}
 
 -- every element is a byte
 abbrev pub Bytes : List ℕ → Type 0
@@ -23,20 +23,3 @@ run f s (suc w) = f s + 2 * run f (s + 1) w
 -- the number in the w bits from bit s on: its lowest bit comes first
 abbrev pub field : List ℕ → ℕ → ℕ → ℕ
 field bs s w = run (bit bs) s w
-
--- n with its digit k set to v
-abbrev pub withDigit : ℕ → ℕ → ℕ → ℕ
-withDigit n k v = (n / 2 ^ k / 2 * 2 + v) * 2 ^ k + n % 2 ^ k
-
--- the bytes with bit p set to v
-abbrev pub putBit : List ℕ → ℕ → ℕ → List ℕ
-putBit bs p v = set bs (p / 8) (withDigit (getD bs (p / 8) 0) (p % 8) v)
-
--- the bytes with the w bits from bit s on set to the number v
-unfoldable pub putField : List ℕ → ℕ → ℕ → ℕ → List ℕ
-putField bs s zero v = bs
-putField bs s (suc w) v = putField (putBit bs s (v % 2)) (s + 1) w (v / 2)
-
--- the w bits from bit s on and the v bits from bit t on have none in common
-abbrev pub Apart : ℕ → ℕ → ℕ → ℕ → Type 0
-Apart s w t v = s < t + v → t < s + w → ⊥

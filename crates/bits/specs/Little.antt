@@ -1,14 +1,9 @@
 -- Numbers of several bytes in a list of bytes, the lowest byte first.
 use mathlib.Core.List.{List}
-use Prim.Native.Nat.{ℕ, zero, suc, _+_, _*_, _/_, _%_}
-use lib.ListN.{getD, set}
+use Prim.Native.Nat.{ℕ, zero, suc, _+_, _*_}
+use lib.ListN.{getD}
 
 -- the n bytes from i on as a number, the lowest first
 unfoldable pub little : List ℕ → ℕ → ℕ → ℕ
 little bs i zero = 0
 little bs i (suc n) = getD bs i 0 + 256 * little bs (i + 1) n
-
--- the n bytes from i on set to the number v, the lowest first
-unfoldable pub putLittle : List ℕ → ℕ → ℕ → ℕ → List ℕ
-putLittle bs i zero v = bs
-putLittle bs i (suc n) v = putLittle (set bs i (v % 256)) (i + 1) n (v / 256)

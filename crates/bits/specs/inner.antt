@@ -1,1 +1,2 @@
 pub mod Abreast
+pub mod Puts

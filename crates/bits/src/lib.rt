@@ -2,8 +2,10 @@
 ghost use mathlib.Core.Path.{_≡_};
 ghost use Prim.Native.Nat.{_+_, _*_, _/_, _%_, _^_, _≤_, _<_};
 ghost use lib.ListN.{length, getD, set};
-ghost use Rattle.bits.specs.Bits.{bit, field, putBit, putField};
-ghost use Rattle.bits.specs.Little.{little, putLittle};
+ghost use Rattle.bits.specs.Bits.{bit, field};
+ghost use Rattle.bits.specs.inner.Puts.{putBit, putField};
+ghost use Rattle.bits.specs.Little.{little};
+ghost use Rattle.bits.specs.inner.Puts.{putLittle};
 
 // Bit p of the bytes: 0 or 1.
 pub fn get_bit(bytes: &[u8], p: usize) -> u8

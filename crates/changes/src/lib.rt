@@ -11,7 +11,7 @@ ghost use mathlib.Core.Path.{_≡_};
 ghost use Prim.Native.Nat.{_<_};
 ghost use Rattle.nodes.specs.Depth.{depthOf};
 ghost use Rattle.answers.specs.Refusals.{answerNumber};
-ghost use Rattle.tables.specs.Table.{Says};
+ghost use Rattle.tables.specs.inner.Says.{Says};
 ghost use Rattle.panel.specs.Panels.{deepOf, Good, InRange};
 ghost use Rattle.panel.specs.Calls.{Split, Together, Merge};
 

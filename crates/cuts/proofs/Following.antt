@@ -5,7 +5,7 @@ use mathlib.Core.Logic.{_≢_}
 use Prim.Native.Nat.{ℕ, _/_, _^_, _≤_, _<_}
 use native.Mathlib.Omega.{arith}
 use Rattle.nodes.specs.Neighbours.{edge}
-use Rattle.tables.specs.Table.{Says}
+use Rattle.tables.specs.inner.Says.{Says}
 use Rattle.cuts.specs.Cuts.{named, Cut, GoodCuts}
 use Rattle.cuts.specs.inner.Steps.{Follows}
 

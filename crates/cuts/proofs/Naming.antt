@@ -8,7 +8,7 @@ use lib.Dec.{eqb}
 use lib.Count.{trailingZeros}
 use Rattle.bits.proofs.Laws.{one-shl}
 use Rattle.nodes.specs.Depth.{depthOf}
-use Rattle.tables.specs.Table.{Says}
+use Rattle.tables.specs.inner.Says.{Says}
 use Rattle.nodes.proofs.Depths.{at-depth, depth-is}
 use Rattle.tables.proofs.Tables.{says-equal}
 use Rattle.cuts.specs.Cuts.{Cut, named}

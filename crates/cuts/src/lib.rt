@@ -4,8 +4,9 @@ ghost use mathlib.Core.Path.{_≡_};
 ghost use Prim.Native.Nat.{_+_, _^_, _≤_, _<_};
 ghost use lib.Count.{trailingZeros};
 ghost use Rattle.nodes.specs.Depth.{depthOf};
-ghost use Rattle.tables.specs.Table.{Says};
-ghost use Rattle.words.specs.Words.{leafBit, Room};
+ghost use Rattle.tables.specs.inner.Says.{Says};
+ghost use Rattle.words.specs.Words.{leafBit};
+ghost use Rattle.words.specs.inner.Working.{Room};
 ghost use Rattle.cuts.specs.Cuts.{Cut, named};
 ghost use Rattle.cuts.specs.inner.Steps.{CutPlace, Follows, NodeOf, AcrossCut, PlaceFollows};
 

@@ -11,8 +11,10 @@ use Rattle.nodes.specs.Depth.{depthOf}
 use Rattle.nodes.specs.Neighbours.{edge}
 use Rattle.nodes.proofs.Depths.{At, at-depth, at-parent, depth-is, depth-half, below-depth}
 use Rattle.nodes.proofs.Edges.{edge-level}
-use Rattle.words.specs.Words.{leafBit, Room}
-use Rattle.sums.specs.Sums.{Right, Summed}
+use Rattle.words.specs.Words.{leafBit}
+use Rattle.words.specs.inner.Working.{Room}
+use Rattle.sums.specs.Sums.{Right}
+use Rattle.sums.specs.inner.Summed.{Summed}
 use Rattle.words.proofs.Rooms.{room-same}
 use Rattle.words.proofs.Leaves.{length-put-leaf, leaf-put-same, leaf-put-other, bit-put-leaf, word-put-leaf}
 use Rattle.sums.proofs.Unique.{summed-leaf, summed-right}

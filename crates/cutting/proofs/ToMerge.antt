@@ -8,7 +8,7 @@ use native.Mathlib.Omega.{arith}
 use lib.Pow.{pow-mono}
 use Rattle.nodes.specs.Depth.{depthOf}
 use Rattle.nodes.specs.Neighbours.{edge}
-use Rattle.tables.specs.Table.{Says}
+use Rattle.tables.specs.inner.Says.{Says}
 use Rattle.nodes.proofs.Depths.{pow-next, at-depth, depth-half, depth-left, depth-le, below-depth}
 use Rattle.nodes.proofs.Edges.{edge-depth}
 use Rattle.nodes.proofs.Limits.{node-small}

@@ -5,7 +5,7 @@ use nodes::Node;
 ghost use mathlib.Core.Path.{_≡_};
 ghost use Prim.Native.Nat.{_≤_, _<_};
 ghost use Rattle.nodes.specs.Depth.{depthOf};
-ghost use Rattle.words.specs.Words.{Room};
+ghost use Rattle.words.specs.inner.Working.{Room};
 ghost use Rattle.panel.specs.Panels.{deepOf, Good, LeafOf};
 ghost use Rattle.panel.specs.Calls.{SplitAt, Together, MergeAt};
 ghost use Rattle.cutting.specs.inner.Changing.{CutPut, SplitBits, MergeBits};

@@ -11,7 +11,8 @@ use Rattle.bits.specs.Bits.{field}
 use Rattle.bits.proofs.Laws.{field-lt}
 use Rattle.nodes.specs.Depth.{depthOf}
 use Rattle.nodes.proofs.Depths.{pow-next, at-root, depth-is, depth-left, depth-right, below-depth}
-use Rattle.words.specs.Words.{width, word, leafBit, Room}
+use Rattle.words.specs.Words.{width, word, leafBit}
+use Rattle.words.specs.inner.Working.{Room}
 use Rattle.words.proofs.Slots.{from, wide, packed, in-panel}
 use Rattle.panel.specs.Panels.{deepOf, CutOf, Good, LeafOf, numberIn, leafCount}
 use Rattle.descents.specs.inner.Descents.{OnWay, Spot, Picked}

@@ -11,7 +11,8 @@ use lib.Dec.{leb, ltb, eqb}
 use borrow.Author.Tests.{ltb-true, eqb-true}
 use Rattle.nodes.specs.Depth.{depthOf}
 use Rattle.nodes.specs.Neighbours.{edge}
-use Rattle.tables.specs.Table.{Row, unless, Answers, Outcome, Says}
+use Rattle.tables.specs.Table.{Row, unless, Answers, Outcome}
+use Rattle.tables.specs.inner.Says.{Says}
 use Rattle.nodes.proofs.Depths.{At, at-depth}
 use Rattle.tables.proofs.Tables.{is-done}
 use Rattle.panel.specs.Panels.{deepOf, CutOf, Good, InRange, LeafOf, numberIn, leafCount}

@@ -15,9 +15,9 @@ use Rattle.triangles.specs.Corners.{Triangle, InPanel, cornersOf, twiceArea}
 use Rattle.tables.specs.Table.{Row, unless, Outcome}
 use Rattle.triangles.specs.Calls.{nodeRows, Neighbours, noCorners, Corners}
 use Rattle.nodes.proofs.Depths.{depth-le}
-use Rattle.nodes.proofs.Edges.{edge-mutual}
+use Rattle.nodes.proofs.Edges.{edge-depth, edge-mutual}
 use Rattle.nodes.proofs.Limits.{known-shallow}
-use Rattle.nodes.proofs.Neighbouring.{left-right}
+use Rattle.nodes.proofs.Neighbouring.{left-depth, right-depth, left-right}
 use Rattle.triangles.proofs.Sides.{Across, Beside, edge-across, left-beside}
 use Rattle.triangles.proofs.Borders.{Border, border}
 use Rattle.triangles.proofs.Cornering.{in-panel}
@@ -38,7 +38,7 @@ use Rattle.requests.specs.Requests.{Called, Step, Run}
 use Rattle.records.specs.Records.{Fine}
 use Rattle.requests.specs.Requests.Called.{opened, refused, split as splits, merge as merges}
 use Rattle.requests.specs.Requests.Step.{bad, call}
-use Rattle.requests.specs.inner.Holding.{Holds}
+use Rattle.requests.specs.Holding.{Holds}
 use Rattle.requests.proofs.Once.{step-one, run-one}
 use Rattle.requests.proofs.Keeping.{step-refused, run-holds}
 use Rattle.evidence.specs.Known.{Every, knownCases}
@@ -136,8 +136,11 @@ pub record Read (s : List ℕ) : Type 0 where
   pub areas : (leaf : ℕ → ℕ) (corners : ℕ → Triangle) → ((i : ℕ) → i < leafCount s → LeafAt s i 0 (leaf i) × Corners (leaf i) 0 (corners i))
       → total (λ i. twiceArea (corners i)) (leafCount s) ≡ 131072
 
--- what holds of a node's neighbours and corners: those that the calls hand out, by their outcomes
+-- what holds of a node's neighbours and corners: by their outcomes these are what the calls hand out. A neighbour that is a node has the same depth
 pub record Placed (n : ℕ) : Type 0 where
+  pub left-level : neighboursOf n .left ≢ 0 → depthOf (neighboursOf n .left) ≡ depthOf n
+  pub right-level : neighboursOf n .right ≢ 0 → depthOf (neighboursOf n .right) ≡ depthOf n
+  pub edge-level : edge n ≢ 0 → depthOf (edge n) ≡ depthOf n
   pub edge-back : edge n ≢ 0 → edge (edge n) ≡ n
   pub left-back : (y : ℕ) → y ≢ 0 → (neighboursOf n .left ≡ y) ↔ (neighboursOf y .right ≡ n)
   pub across : neighboursOf n .edge ≢ 0 → Across (cornersOf (neighboursOf n .edge)) (cornersOf n)
@@ -177,6 +180,9 @@ panel-read s G = record {
 node-placed : (n : ℕ) → KnownNode n → Placed n
 node-placed n k =
     let d : depthOf n ≤ 17 = known-shallow k in record {
+      left-level = left-depth n (k .low);
+      right-level = right-depth n (k .low);
+      edge-level = edge-depth n;
       edge-back = edge-mutual n;
       left-back = λ y. left-right n y (k .low);
       across = edge-across n (k .low);

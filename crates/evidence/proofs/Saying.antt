@@ -8,7 +8,8 @@ use native.Mathlib.Decide.{ℕ-discrete, decLt}
 use native.Mathlib.Omega.{arith}
 use lib.Dec.{leb, ltb, eqb}
 use borrow.Author.Tests.{leb-true, leb-false, ltb-true, ltb-false, eqb-true, eqb-false}
-use Rattle.tables.specs.Table.{Row, Answers, Outcome, Says}
+use Rattle.tables.specs.Table.{Row, Answers, Outcome}
+use Rattle.tables.specs.inner.Says.{Says}
 use Rattle.tables.proofs.Tables.{says-yes, says-no, is-done, is-refused}
 
 -- ---- numbers

@@ -12,7 +12,7 @@ use Rattle.bits.specs.Bits.{bit}
 use Rattle.nodes.specs.Depth.{depthOf}
 use Rattle.nodes.specs.Limits.{leastDepth, greatestDepth}
 use Rattle.nodes.specs.Neighbours.{edge}
-use Rattle.tables.specs.Table.{Says}
+use Rattle.tables.specs.inner.Says.{Says}
 use Rattle.tables.proofs.Tables.{says-no}
 use Rattle.words.specs.Words.{word, leafBit}
 use Rattle.sums.specs.Sums.{SumsRight, Right}

@@ -3,7 +3,8 @@
 ghost use mathlib.Core.Path.{_≡_};
 ghost use Prim.Native.Nat.{_+_, _*_, _^_, _≤_, _<_};
 ghost use lib.ListN.{length};
-ghost use Rattle.bits.specs.Bits.{field, putField};
+ghost use Rattle.bits.specs.Bits.{field};
+ghost use Rattle.bits.specs.inner.Puts.{putField};
 ghost use Rattle.fields.specs.inner.Windows.{Window};
 
 // Where the window that holds the bits from s on starts.

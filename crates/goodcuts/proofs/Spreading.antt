@@ -12,7 +12,8 @@ use lib.ListN.{length}
 use Rattle.bits.specs.Bits.{digit, bit, field}
 use Rattle.bits.proofs.Laws.{one-shl, run-digit, bit-lt, digit-lt, digit-shift, order}
 use Rattle.nodes.proofs.Depths.{At, at-from, at-root, depth-is, pow-next}
-use Rattle.words.specs.Words.{leafBit, Room}
+use Rattle.words.specs.Words.{leafBit}
+use Rattle.words.specs.inner.Working.{Room}
 use Rattle.bits.specs.inner.Abreast.{part, abreast}
 use Rattle.bits.proofs.Abreast.{same-words, abreast-lt, word-digit, times, one-word, halved, ones-halved}
 use Rattle.sums.proofs.Pairs.{field-high}

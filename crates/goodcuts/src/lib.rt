@@ -5,8 +5,9 @@ use crate::shallow::shallow_follow;
 use blocks::blocks_follow;
 use cuts::is_cut;
 use nodes::Node;
-ghost use Rattle.tables.specs.Table.{Says};
-ghost use Rattle.words.specs.Words.{leafBit, Room};
+ghost use Rattle.tables.specs.inner.Says.{Says};
+ghost use Rattle.words.specs.Words.{leafBit};
+ghost use Rattle.words.specs.inner.Working.{Room};
 ghost use Rattle.cuts.specs.Cuts.{Cut, GoodCuts};
 
 // Whether the cuts that the leaf bits name are good.

@@ -14,7 +14,8 @@ use Rattle.nodes.specs.Depth.{depthOf}
 use Rattle.nodes.specs.Neighbours.{edge}
 use Rattle.nodes.proofs.Depths.{At, at-from, at-depth, at-below, pow-next}
 use Rattle.nodes.proofs.Edges.{edge-low, edge-mutual, edge-first}
-use Rattle.words.specs.Words.{leafBit, Room}
+use Rattle.words.specs.Words.{leafBit}
+use Rattle.words.specs.inner.Working.{Room}
 use Rattle.words.proofs.Rooms.{bounds, whole-words}
 use Rattle.cuts.specs.Cuts.{named, Cut, GoodCuts}
 use Rattle.cuts.specs.inner.Steps.{Follows, AcrossCut, PlaceFollows, AllFollow}

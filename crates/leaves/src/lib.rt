@@ -7,7 +7,7 @@ use nodes::LeafNumber;
 use nodes::Node;
 ghost use mathlib.Core.Path.{_≡_};
 ghost use Prim.Native.Nat.{_≤_, _<_};
-ghost use Rattle.tables.specs.Table.{Says};
+ghost use Rattle.tables.specs.inner.Says.{Says};
 ghost use Rattle.answers.specs.Refusals.{numberedNumber, numberedLeaf};
 ghost use Rattle.panel.specs.Panels.{deepOf, Good, InRange, LeafOf, leafCount};
 ghost use Rattle.panel.specs.Calls.{LeafNumbered, NumberOf};

@@ -1,8 +1,8 @@
 // Making every sum right, from the leaf bits up: from depth 6 on the six lowest rows 64 leaf bits at a time, before it the three lowest
 // rows eight leaf bits at a time; the others word by word.
 ghost use Prim.Native.Nat.{_+_, _^_, _≤_, _<_};
-ghost use Rattle.words.specs.Words.{Room};
-ghost use Rattle.sums.specs.Sums.{Summed};
+ghost use Rattle.words.specs.inner.Working.{Room};
+ghost use Rattle.sums.specs.inner.Summed.{Summed};
 ghost use Rattle.sums.specs.inner.Rows.{Made};
 
 // Row d: word k starts at bit p, word 2k at bit c.

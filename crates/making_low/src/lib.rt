@@ -1,7 +1,7 @@
 // Making the lowest rows of sums: six rows 64 leaf bits at a time, or three rows eight leaf bits at a time.
 ghost use Prim.Native.Nat.{_-_, _*_, _^_, _≤_, _<_};
 ghost use lib.ListN.{length};
-ghost use Rattle.words.specs.Words.{Room};
+ghost use Rattle.words.specs.inner.Working.{Room};
 ghost use Rattle.sums.specs.inner.Rows.{Made, SevenMade, SixMade};
 
 // Makes the three lowest rows, the highest of m words, over the eight leaf bits from bit 8 i on. The leaf bits are the last m bytes of

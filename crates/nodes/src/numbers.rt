@@ -3,7 +3,7 @@ ghost use mathlib.Core.Path.{_≡_};
 ghost use Prim.Native.Nat.{_≤_};
 ghost use Rattle.nodes.specs.Depth.{depthOf};
 ghost use Rattle.nodes.specs.Limits.{KnownNode};
-ghost use Rattle.tables.specs.Table.{Says};
+ghost use Rattle.tables.specs.inner.Says.{Says};
 
 // The least depth that a panel may have.
 pub const LEAST_DEPTH: usize = 3;

@@ -10,8 +10,10 @@ use lib.ListN.{length}
 use lib.Pow.{pow-pos}
 use Rattle.bits.specs.Bits.{digit, bit}
 use Rattle.nodes.proofs.Depths.{pow-next, at-root, depth-zero}
-use Rattle.words.specs.Words.{word, putWord, leafBit, putLeafBit, Room}
-use Rattle.sums.specs.Sums.{Right, Summed}
+use Rattle.words.specs.Words.{word, leafBit}
+use Rattle.words.specs.inner.Working.{putWord, putLeafBit, Room}
+use Rattle.sums.specs.Sums.{Right}
+use Rattle.sums.specs.inner.Summed.{Summed}
 use Rattle.words.proofs.Rooms.{room-same}
 use Rattle.words.proofs.Slots.{wide, packed, from-zero, from-one, word-put-same, length-putWord, bit-put-word}
 use Rattle.words.proofs.Leaves.{length-put-leaf, leaf-put-same, leaf-put-other, bit-put-leaf, word-put-leaf}

@@ -12,7 +12,7 @@ use Rattle.nodes.specs.Depth.{depthOf}
 use Rattle.nodes.specs.Limits.{leastDepth, greatestDepth}
 use Rattle.nodes.proofs.Depths.{depth-is}
 use Rattle.nodes.proofs.Limits.{greatest-small}
-use Rattle.words.specs.Words.{Room}
+use Rattle.words.specs.inner.Working.{Room}
 use Rattle.panel.specs.Panels.{sizeOf, Fits, deepOf, RightLength, Good}
 
 -- ---- the length of a panel of depth D

@@ -3,7 +3,7 @@ use crate::sizes::size;
 use answers::Answer;
 use answers::Refusal;
 ghost use Rattle.answers.specs.Refusals.{answerNumber};
-ghost use Rattle.tables.specs.Table.{Says};
+ghost use Rattle.tables.specs.inner.Says.{Says};
 ghost use Rattle.panel.specs.Panels.{Fits};
 ghost use Rattle.panel.specs.Calls.{Fresh, Open};
 ghost use Rattle.panel.specs.inner.Opening.{Cleared};

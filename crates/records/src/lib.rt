@@ -2,7 +2,7 @@
 ghost use mathlib.Core.Path.{_≡_};
 ghost use Prim.Native.Nat.{_<_, min};
 ghost use lib.ListN.{length};
-ghost use Rattle.tables.specs.Table.{Says};
+ghost use Rattle.tables.specs.inner.Says.{Says};
 ghost use Rattle.records.specs.Records.{number, Fine, recordAt, recordCount};
 
 // The most records that a run works through.

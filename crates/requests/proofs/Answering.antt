@@ -22,7 +22,7 @@ use Rattle.requests.specs.Requests.Called.{opened, refused, split, merge
 use Rattle.requests.specs.Requests.Step.{call}
 use Rattle.requests.specs.inner.Changing.{Change}
 use Rattle.requests.specs.inner.Changing.Change.{split as splits, merge as merges}
-use Rattle.requests.specs.inner.Holding.{Holds}
+use Rattle.requests.specs.Holding.{Holds}
 use Rattle.requests.proofs.Parts.{no-room, none-right, same-changed, held-fits, held-inside}
 
 -- ---- open

@@ -15,7 +15,7 @@ use Rattle.records.specs.Records.{kind, number, recordAt, Fine}
 use Rattle.requests.specs.Requests.Called.{opened, refused, split, merge}
 use Rattle.requests.specs.Requests.Step.{bad, call}
 use Rattle.requests.specs.Requests.Runs.{none, more}
-use Rattle.requests.specs.inner.Holding.{Holds}
+use Rattle.requests.specs.Holding.{Holds}
 use Rattle.requests.proofs.Parts.{no-room, none-right, panel-changed, same-changed, held-length}
 
 -- ---- a refusal changes nothing

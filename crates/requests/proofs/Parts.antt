@@ -11,7 +11,7 @@ use Rattle.bits.specs.Bits.{Bytes}
 use Rattle.panel.specs.Panels.{sizeOf, Fits, RightLength}
 use Rattle.panel.proofs.Lengths.{length-least}
 use Rattle.requests.specs.Requests.{panelIn, changed}
-use Rattle.requests.specs.inner.Holding.{Holds}
+use Rattle.requests.specs.Holding.{Holds}
 
 -- ---- the panel at the start of the buffer
 

@@ -7,10 +7,12 @@ use native.Mathlib.Nat.{add-zero, suc-mul, zero-mul, le-refl}
 use native.Mathlib.Omega.{arith}
 use lib.ListN.{length}
 use lib.Pow.{pow-mono}
-use Rattle.bits.specs.Bits.{field, putField}
+use Rattle.bits.specs.Bits.{field}
+use Rattle.bits.specs.inner.Puts.{putField}
 use Rattle.bits.proofs.Laws.{field-lt, le-or-lt}
 use Rattle.nodes.proofs.Depths.{pow-next, at-from, depth-is}
-use Rattle.words.specs.Words.{start, word, putWord, Room}
+use Rattle.words.specs.Words.{start, word}
+use Rattle.words.specs.inner.Working.{putWord, Room}
 use Rattle.sums.specs.inner.Rows.{SumAt, SumsBetween}
 use Rattle.words.proofs.Slots.{from, wide, row-from, packed, from-mono, from-top}
 use Rattle.words.proofs.Rooms.{bounds, room-bytes}

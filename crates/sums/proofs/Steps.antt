@@ -11,8 +11,9 @@ use Rattle.bits.proofs.Laws.{le-or-lt}
 use Rattle.bits.proofs.Windows.{field-one}
 use Rattle.nodes.specs.Depth.{depthOf}
 use Rattle.nodes.proofs.Depths.{pow-next, depth-left, depth-right, depth-le}
-use Rattle.words.specs.Words.{width, word, putWord}
-use Rattle.sums.specs.Sums.{Summed}
+use Rattle.words.specs.Words.{width, word}
+use Rattle.words.specs.inner.Working.{putWord}
+use Rattle.sums.specs.inner.Summed.{Summed}
 use Rattle.sums.specs.inner.Rows.{SumsBetween, Made, MadeHere}
 use Rattle.words.proofs.Slots.{from, wide, packed, from-mono, from-one, from-leaf, word-lt, word-same, length-putWord, bit-put-word, word-put-same, word-put-other}
 

@@ -10,7 +10,8 @@ use Rattle.bits.specs.Bits.{bit}
 use Rattle.bits.proofs.Laws.{Bytes, le-or-lt}
 use Rattle.nodes.proofs.Depths.{pow-next}
 use Rattle.words.specs.Words.{word, leafBit}
-use Rattle.sums.specs.Sums.{SumsRight, Right, Summed}
+use Rattle.sums.specs.Sums.{SumsRight, Right}
+use Rattle.sums.specs.inner.Summed.{Summed}
 use Rattle.words.proofs.Slots.{packed, from-one, word-same, words-ext, leaf-word}
 
 -- right sums over the same leaf bits are the same

@@ -7,7 +7,8 @@ use Prim.Native.Nat.{ℕ}
 use native.Mathlib.Decide.{ℕ-discrete}
 use lib.Dec.{eqb}
 use borrow.Author.Tests.{eqb-true, eqb-false}
-use Rattle.tables.specs.Table.{Row, Answers, Outcome, Says}
+use Rattle.tables.specs.Table.{Row, Answers, Outcome}
+use Rattle.tables.specs.inner.Says.{Says}
 
 pub answers-one : (rows : List Row) (n m : ℕ) → Answers rows n → Answers rows m → n ≡ m
 answers-one [] n m p q = p ∙ sym q

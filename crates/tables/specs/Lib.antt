@@ -1,2 +1,3 @@
 pub mod Table
 pub mod Exactly
+pub mod inner

@@ -1,6 +1,5 @@
 -- A table of refusals, and the outcome of a call by it: "The lowest number that applies is answered".
 use mathlib.Core.Path.{_≡_}
-use mathlib.Core.Bool.{Bool, true, false}
 use mathlib.Core.Logic.{_⊎_}
 use mathlib.Core.List.{List, [], _∷_}
 use Prim.Native.Nat.{ℕ}
@@ -24,8 +23,3 @@ pub record Outcome (rows : List Row) (A : Type 0) (Done Refused : A → Type 0) 
   pub answer : Answers rows n
   pub done : n ≡ 0 → Done x
   pub refused : (n ≡ 0 → ⊥) → Refused x
-
--- a test that says whether P holds
-pub record Says (P : Type 0) (r : Bool) : Type 0 where
-  pub yes : r ≡ true → P
-  pub no : r ≡ false → P → ⊥

@@ -1,8 +1,8 @@
 // Testing all sums: from depth 6 on the six lowest rows 64 leaf bits at a time, before it the three lowest rows eight leaf bits at a
 // time; the others word by word.
 ghost use Prim.Native.Nat.{_+_, _^_, _≤_, _<_};
-ghost use Rattle.tables.specs.Table.{Says};
-ghost use Rattle.words.specs.Words.{Room};
+ghost use Rattle.tables.specs.inner.Says.{Says};
+ghost use Rattle.words.specs.inner.Working.{Room};
 ghost use Rattle.sums.specs.Sums.{SumsRight, Right};
 ghost use Rattle.sums.specs.inner.Rows.{SumsBetween};
 

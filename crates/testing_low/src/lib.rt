@@ -1,8 +1,8 @@
 // Testing the lowest rows of sums: six rows 64 leaf bits at a time, or three rows eight leaf bits at a time.
 ghost use Prim.Native.Nat.{_-_, _*_, _^_, _≤_, _<_};
 ghost use lib.ListN.{length};
-ghost use Rattle.tables.specs.Table.{Says};
-ghost use Rattle.words.specs.Words.{Room};
+ghost use Rattle.tables.specs.inner.Says.{Says};
+ghost use Rattle.words.specs.inner.Working.{Room};
 ghost use Rattle.sums.specs.inner.Rows.{SumsBetween, SevenAt, SixAt};
 
 // Whether the three lowest rows, the highest of m words, are right over the eight leaf bits from bit 8 i on. The leaf bits are the last

@@ -8,7 +8,8 @@ use lib.Pow.{pow-pos}
 use Rattle.bits.specs.Bits.{bit, run, field}
 use Rattle.bits.proofs.Laws.{bit-lt}
 use Rattle.nodes.proofs.Depths.{depth-zero}
-use Rattle.words.specs.Words.{width, word, Room}
+use Rattle.words.specs.Words.{width, word}
+use Rattle.words.specs.inner.Working.{Room}
 use Rattle.words.proofs.Slots.{wide, from-zero, in-panel}
 
 wide-zero : (D : ℕ) → wide D 0 ≡ D + 1

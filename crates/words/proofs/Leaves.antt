@@ -10,7 +10,8 @@ use Rattle.bits.specs.Bits.{digit, bit}
 use Rattle.bits.proofs.Laws.{length-putBit, bit-put-same, bit-put-other}
 use Rattle.bits.proofs.Windows.{bit-drop}
 use Rattle.nodes.proofs.Depths.{pow-next}
-use Rattle.words.specs.Words.{word, leafBit, putLeafBit, Room}
+use Rattle.words.specs.Words.{word, leafBit}
+use Rattle.words.specs.inner.Working.{putLeafBit, Room}
 use Rattle.words.proofs.Slots.{apart, from-leaf, word-same}
 use Rattle.words.proofs.Rooms.{bounds, whole-bytes}
 

@@ -8,7 +8,8 @@ use lib.Pow.{pow-mono, pow-add}
 use Rattle.bits.proofs.Laws.{one-shl}
 use Rattle.nodes.specs.Depth.{depthOf}
 use Rattle.nodes.proofs.Depths.{pow-next, depth-le}
-use Rattle.words.specs.Words.{width, Room}
+use Rattle.words.specs.Words.{width}
+use Rattle.words.specs.inner.Working.{Room}
 use Rattle.words.proofs.Slots.{from, in-panel}
 
 -- the leaf bits fill whole bytes

@@ -14,7 +14,8 @@ use Rattle.bits.proofs.Windows.{field-one}
 use Rattle.bits.specs.Bits.{bit, field}
 use Rattle.nodes.specs.Depth.{depthOf}
 use Rattle.nodes.proofs.Depths.{at-root, pow-next, at-from, at-below, at-depth, depth-is, depth-le, depth-zero}
-use Rattle.words.specs.Words.{width, start, word, putWord, leafBit}
+use Rattle.words.specs.Words.{width, start, word, leafBit}
+use Rattle.words.specs.inner.Working.{putWord}
 
 -- within a row
 same-row : (D d k : ℕ) → start D d (k + 1) ≡ start D d k + width D d

@@ -3,7 +3,8 @@ ghost use mathlib.Core.Path.{_≡_};
 ghost use Prim.Native.Nat.{_+_, _-_, _*_, _^_, _≤_, _<_};
 ghost use lib.ListN.{take, drop};
 ghost use Rattle.nodes.specs.Depth.{depthOf};
-ghost use Rattle.words.specs.Words.{width, start, word, putWord, leafBit, putLeafBit, Room};
+ghost use Rattle.words.specs.Words.{width, start, word, leafBit};
+ghost use Rattle.words.specs.inner.Working.{putWord, putLeafBit, Room};
 
 // The depth of word k: that of node k, and 0 for word 0.
 fn depth_of(k: usize) -> usize

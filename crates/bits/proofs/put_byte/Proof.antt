@@ -2,7 +2,7 @@
 use mathlib.Core.Path.{sym, ap, _∙_}
 use native.Mathlib.Nat.{mod-eq-of-lt}
 use lib.ListN.{set}
-use Rattle.bits.specs.Little.{putLittle}
+use Rattle.bits.specs.inner.Puts.{putLittle}
 use Rattle.bits.proofs.Windows.{put-bytes}
 use borrow.Author.Needs.{needs}
 use Rattle.bits.proofs.put_byte.Statement.{statement}

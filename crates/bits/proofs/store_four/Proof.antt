@@ -2,7 +2,7 @@
 use mathlib.Core.Path.{_≡_}
 use Prim.Native.Nat.{_+_}
 use native.Mathlib.Omega.{arith}
-use Rattle.bits.specs.Little.{putLittle}
+use Rattle.bits.specs.inner.Puts.{putLittle}
 use borrow.Author.Needs.{needs}
 use Rattle.bits.proofs.store_four.Statement.{statement}
 use Rattle.bits.proofs.store_four.Tie as tie

@@ -4,7 +4,7 @@ use Prim.Native.Nat.{_+_, _-_}
 use native.Mathlib.Omega.{arith}
 use lib.ListN.{length}
 use lib.Pow.{pow-mono}
-use Rattle.tables.specs.Table.{Says}
+use Rattle.tables.specs.inner.Says.{Says}
 use Rattle.nodes.proofs.Depths.{at-from, depth-is, pow-next}
 use Rattle.tables.proofs.Tables.{says-no}
 use Rattle.words.specs.Words.{leafBit}

@@ -2,7 +2,7 @@
 use mathlib.Core.Path.{sym, ap, _∙_, subst}
 use native.Mathlib.Omega.{arith}
 use Rattle.nodes.specs.Depth.{depthOf}
-use Rattle.tables.specs.Table.{Says}
+use Rattle.tables.specs.inner.Says.{Says}
 use Rattle.nodes.proofs.Depths.{below-depth}
 use Rattle.nodes.proofs.Edges.{edge-depth}
 use Rattle.tables.proofs.Tables.{says-yes}

@@ -4,7 +4,7 @@ use native.Mathlib.Omega.{arith}
 use lib.Pow.{pow-mono}
 use borrow.Author.Needs.{needs}
 use Rattle.nodes.specs.Depth.{depthOf}
-use Rattle.tables.specs.Table.{Says}
+use Rattle.tables.specs.inner.Says.{Says}
 use Rattle.tables.proofs.Tables.{says-yes}
 use Rattle.words.specs.Words.{leafBit}
 use Rattle.cuts.specs.Cuts.{Cut}

@@ -6,7 +6,8 @@ use Prim.Native.Nat.{ℕ}
 use lib.ListN.{length}
 use Rattle.bits.specs.Bits.{bit}
 use Rattle.nodes.specs.Neighbours.{edge}
-use Rattle.words.specs.Words.{word, leafBit, putLeafBit}
+use Rattle.words.specs.Words.{word, leafBit}
+use Rattle.words.specs.inner.Working.{putLeafBit}
 use Rattle.cuts.specs.Cuts.{Cut, Smallest}
 use Rattle.panel.specs.Panels.{deepOf, CutOf}
 use Rattle.cuts.specs.inner.Steps.{CutPlace}

@@ -3,7 +3,7 @@ use mathlib.Core.Path.{ap, _∙_, subst⁻¹}
 use Prim.Native.Nat.{ℕ, _+_, _-_, _*_, _^_, _≤_, _<_}
 use native.Mathlib.Omega.{arith}
 use lib.Pow.{pow-pos}
-use Rattle.bits.specs.Little.{putLittle}
+use Rattle.bits.specs.inner.Puts.{putLittle}
 use Rattle.bits.proofs.Laws.{one-shl}
 use Rattle.bits.proofs.Windows.{withField, put-window, shifted, whole, head-lt}
 use borrow.Author.Needs.{needs}

@@ -3,7 +3,7 @@ use mathlib.Core.Path.{refl, ap, _∙_, subst}
 use mathlib.Core.List.{[]}
 use native.Mathlib.Omega.{arith}
 use borrow.Author.Tests.{not-true, not-false}
-use Rattle.tables.specs.Table.{Says}
+use Rattle.tables.specs.inner.Says.{Says}
 use Rattle.tables.proofs.Tables.{is-done, is-refused}
 use Rattle.panel.specs.Panels.{InRange, LeafOf, numberIn}
 use Rattle.panel.proofs.LeafRows.{no-such-node, not-leaf, is-leaf}

@@ -4,7 +4,7 @@ use Prim.Native.Nat.{ℕ, _+_, _-_, _*_, _%_, _^_}
 use native.Mathlib.Omega.{arith}
 use lib.Pow.{pow-mono, pow-pos}
 use Rattle.nodes.proofs.Depths.{pow-next}
-use Rattle.words.specs.Words.{putWord}
+use Rattle.words.specs.inner.Working.{putWord}
 use Rattle.sums.specs.inner.Rows.{Made}
 use Rattle.words.proofs.Rooms.{room-same}
 use Rattle.sums.proofs.Rows.{Running, Here, running-first, running-next, here}

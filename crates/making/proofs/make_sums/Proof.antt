@@ -4,7 +4,7 @@ use Prim.Native.Nat.{ℕ, _-_, _^_, _≤_}
 use native.Mathlib.Nat.{le-refl}
 use native.Mathlib.Omega.{arith}
 use lib.Pow.{pow-mono, pow-pos}
-use Rattle.sums.specs.Sums.{Summed}
+use Rattle.sums.specs.inner.Summed.{Summed}
 use Rattle.sums.specs.inner.Rows.{Made}
 use Rattle.words.proofs.Rooms.{room-same}
 use Rattle.sums.proofs.Steps.{made-join, made-all}

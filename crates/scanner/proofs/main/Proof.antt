@@ -4,7 +4,7 @@ use native.Mathlib.Omega.{arith}
 use lib.ListN.{length-take}
 use lib.Seq.{length-take-le}
 use borrow.Author.Needs.{needs}
-use Rattle.requests.specs.inner.Holding.{Holds}
+use Rattle.requests.specs.Holding.{Holds}
 use Rattle.requests.proofs.Keeping.{run-holds}
 use Rattle.requests.proofs.Answering.{lent-small, lent-inside, lent-good}
 use Rattle.scanner.proofs.main.Statement.{statement}

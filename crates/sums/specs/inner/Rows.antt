@@ -4,7 +4,8 @@ use mathlib.Core.Logic.{_⊎_}
 use mathlib.Core.List.{List}
 use Prim.Native.Nat.{ℕ, _+_, _*_, _/_, _%_, _^_, _≤_, _<_}
 use lib.ListN.{length}
-use Rattle.bits.specs.Bits.{bit, field, Apart}
+use Rattle.bits.specs.Bits.{bit, field}
+use Rattle.bits.specs.inner.Puts.{Apart}
 use Rattle.bits.specs.inner.Abreast.{part}
 use Rattle.nodes.specs.Depth.{depthOf}
 use Rattle.words.specs.Words.{start, word}

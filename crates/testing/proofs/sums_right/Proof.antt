@@ -5,7 +5,7 @@ use Prim.Native.Nat.{ℕ, _-_, _^_, _≤_}
 use native.Mathlib.Omega.{arith}
 use lib.Pow.{pow-mono, pow-pos}
 use borrow.Author.Needs.{needs}
-use Rattle.tables.specs.Table.{Says}
+use Rattle.tables.specs.inner.Says.{Says}
 use Rattle.tables.proofs.Tables.{says-no}
 use Rattle.sums.specs.Sums.{SumsRight}
 use Rattle.sums.specs.inner.Rows.{SumsBetween}

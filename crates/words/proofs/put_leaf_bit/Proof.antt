@@ -3,8 +3,8 @@ use mathlib.Core.Path.{ap, _∙_}
 use Prim.Native.Nat.{ℕ}
 use native.Mathlib.Omega.{arith}
 use borrow.Author.Needs.{needs}
-use Rattle.bits.specs.Bits.{putBit}
-use Rattle.words.specs.Words.{putLeafBit}
+use Rattle.bits.specs.inner.Puts.{putBit}
+use Rattle.words.specs.inner.Working.{putLeafBit}
 use Rattle.words.proofs.Rooms.{bounds}
 use Rattle.words.proofs.put_leaf_bit.Statement.{statement}
 use Rattle.words.proofs.put_leaf_bit.Tie as tie

@@ -4,8 +4,9 @@ use Prim.Native.Nat.{ℕ, _^_, _<_}
 use native.Mathlib.Omega.{arith}
 use lib.ListN.{length}
 use borrow.Author.Needs.{needs}
-use Rattle.bits.specs.Bits.{putField}
-use Rattle.words.specs.Words.{width, putWord}
+use Rattle.bits.specs.inner.Puts.{putField}
+use Rattle.words.specs.Words.{width}
+use Rattle.words.specs.inner.Working.{putWord}
 use Rattle.words.proofs.Rooms.{bounds, Placed, placed}
 use Rattle.words.proofs.put_word.Statement.{statement}
 use Rattle.words.proofs.put_word.Tie as tie

@@ -4,7 +4,8 @@ use native.Mathlib.Omega.{arith}
 use lib.Pow.{pow-pos}
 use borrow.Author.Needs.{needs}
 use Rattle.sums.specs.Sums.{Right}
-use Rattle.words.specs.Words.{leafBit, Room}
+use Rattle.words.specs.Words.{leafBit}
+use Rattle.words.specs.inner.Working.{Room}
 use Rattle.cuts.specs.Cuts.{Cut, GoodCuts}
 use Rattle.tables.proofs.Tables.{is-done, is-refused}
 use Rattle.panel.specs.Panels.{deepOf, RightLength}

@@ -5,8 +5,8 @@ use native.Mathlib.Omega.{arith}
 use lib.Pow.{pow-pos}
 use borrow.Author.Needs.{needs}
 use Rattle.bits.proofs.Laws.{one-shl}
-use Rattle.words.specs.Words.{putLeafBit, Room}
-use Rattle.sums.specs.Sums.{Summed}
+use Rattle.words.specs.inner.Working.{putLeafBit, Room}
+use Rattle.sums.specs.inner.Summed.{Summed}
 use Rattle.words.proofs.Rooms.{room-same}
 use Rattle.panel.proofs.Lengths.{fits-small}
 use Rattle.panel.proofs.Freshness.{depth-fits, fresh, half, room}
