@@ -44,14 +44,6 @@ pub fn get_four(bytes: &[u8], i: usize) -> u32
         + 256 * (byte(bytes, i + 1) + 256 * (byte(bytes, i + 2) + 256 * byte(bytes, i + 3)))
 }
 
-// The eight bytes from i on: the field of their 64 bits.
-pub fn get_eight(bytes: &[u8], i: usize) -> u64
-    requires { ⌜ i + 8 ≤ length (now bytes) ⌝ }
-    ensures { λ r. ⌜ r ≡ field (now (bytes .entry)) (8 * i) 64 ⌝ }
-{
-    get_four(bytes, i) as u64 + 4294967296 * (get_four(bytes, i + 4) as u64)
-}
-
 // Byte i: the field of its eight bits.
 pub fn get_byte(bytes: &[u8], i: usize) -> u32
     requires { ⌜ i < length (now bytes) ⌝ }
@@ -84,31 +76,4 @@ pub fn store_four(bytes: &mut [u8], i: usize, n: u32)
     store_byte(bytes, i + 1, n / 256 % 256);
     store_byte(bytes, i + 2, n / 256 / 256 % 256);
     store_byte(bytes, i + 3, n / 256 / 256 / 256 % 256);
-}
-
-// Sets the four bytes from i on to v: the field of their 32 bits.
-pub fn put_four(bytes: &mut [u8], i: usize, v: u32)
-    requires { ⌜ i + 4 ≤ length (now bytes) ⌝ }
-    ensures { λ _. ⌜ now (bytes .exit) ≡ putField (now (bytes .entry)) (8 * i) 32 v ⌝ }
-{
-    store_four(bytes, i, v);
-}
-
-// Sets the six bytes from i on to v: the field of their 48 bits.
-pub fn put_six(bytes: &mut [u8], i: usize, v: u64)
-    requires { ⌜ (i + 6 ≤ length (now bytes)) × (v < 2 ^ 48) ⌝ }
-    ensures { λ _. ⌜ now (bytes .exit) ≡ putField (now (bytes .entry)) (8 * i) 48 v ⌝ }
-{
-    put_four(bytes, i, (v % 4294967296) as u32);
-    put_byte(bytes, i + 4, (v / 4294967296 % 256) as u32);
-    put_byte(bytes, i + 5, (v / 4294967296 / 256) as u32);
-}
-
-// Sets the eight bytes from i on to v: the field of their 64 bits.
-pub fn put_eight(bytes: &mut [u8], i: usize, v: u64)
-    requires { ⌜ i + 8 ≤ length (now bytes) ⌝ }
-    ensures { λ _. ⌜ now (bytes .exit) ≡ putField (now (bytes .entry)) (8 * i) 64 v ⌝ }
-{
-    put_four(bytes, i, (v % 4294967296) as u32);
-    put_four(bytes, i + 4, (v / 4294967296) as u32);
 }

@@ -21,7 +21,7 @@ fn word_below(bytes: &[u8], deep: usize, q: Node) -> u64
     requires { ⌜ Room deep (now bytes) × (1 ≤ q .0) × (depthOf (q .0) + 6 ≡ deep) ⌝ }
     ensures { λ r. ⌜ CutWord (Cut deep (leafBit deep (now (bytes .entry)))) (q .0) r ⌝ }
 {
-    bits::get_eight(bytes, (1usize << (deep - 2)) + 8 * q.0 as usize)
+    fields::get_eight(bytes, (1usize << (deep - 2)) + 8 * q.0 as usize)
 }
 
 // Whether each cut node along the long side of q has none or a cut node across it.

@@ -1,5 +1,5 @@
-// Fields of bits in lent bytes. A field goes through one window of four bytes that always lies inside. Four bytes hold a field of up
-// to 25 bits wherever in a byte it starts: fields to 24 bits, and one bit to spare.
+// Fields of bits in lent bytes. One of any place goes through a window of four bytes that always lies inside: four bytes hold a field
+// of up to 25 bits wherever in a byte it starts, fields to 24 bits and one bit to spare. One of whole bytes needs no window.
 ghost use mathlib.Core.Path.{_≡_};
 ghost use Prim.Native.Nat.{_+_, _*_, _^_, _≤_, _<_};
 ghost use lib.ListN.{length};
@@ -37,4 +37,39 @@ pub fn put_field(bytes: &mut [u8], s: usize, w: usize, v: u32)
     let low = n % (1u32 << k);
     let high = n >> k >> w;
     bits::store_four(bytes, i, (((high << w) + v) << k) + low);
+}
+
+// The eight bytes from i on: the field of their 64 bits.
+pub fn get_eight(bytes: &[u8], i: usize) -> u64
+    requires { ⌜ i + 8 ≤ length (now bytes) ⌝ }
+    ensures { λ r. ⌜ r ≡ field (now (bytes .entry)) (8 * i) 64 ⌝ }
+{
+    bits::get_four(bytes, i) as u64 + 4294967296 * (bits::get_four(bytes, i + 4) as u64)
+}
+
+// Sets the four bytes from i on to v: the field of their 32 bits.
+pub fn put_four(bytes: &mut [u8], i: usize, v: u32)
+    requires { ⌜ i + 4 ≤ length (now bytes) ⌝ }
+    ensures { λ _. ⌜ now (bytes .exit) ≡ putField (now (bytes .entry)) (8 * i) 32 v ⌝ }
+{
+    bits::store_four(bytes, i, v);
+}
+
+// Sets the six bytes from i on to v: the field of their 48 bits.
+pub fn put_six(bytes: &mut [u8], i: usize, v: u64)
+    requires { ⌜ (i + 6 ≤ length (now bytes)) × (v < 2 ^ 48) ⌝ }
+    ensures { λ _. ⌜ now (bytes .exit) ≡ putField (now (bytes .entry)) (8 * i) 48 v ⌝ }
+{
+    put_four(bytes, i, (v % 4294967296) as u32);
+    bits::put_byte(bytes, i + 4, (v / 4294967296 % 256) as u32);
+    bits::put_byte(bytes, i + 5, (v / 4294967296 / 256) as u32);
+}
+
+// Sets the eight bytes from i on to v: the field of their 64 bits.
+pub fn put_eight(bytes: &mut [u8], i: usize, v: u64)
+    requires { ⌜ i + 8 ≤ length (now bytes) ⌝ }
+    ensures { λ _. ⌜ now (bytes .exit) ≡ putField (now (bytes .entry)) (8 * i) 64 v ⌝ }
+{
+    put_four(bytes, i, (v % 4294967296) as u32);
+    put_four(bytes, i + 4, (v / 4294967296) as u32);
 }

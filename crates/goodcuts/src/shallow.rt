@@ -21,7 +21,7 @@ fn leaves_of(bytes: &[u8], deep: usize) -> u64
     if deep == 3 {
         return bits::get_byte(bytes, 3) as u64;
     }
-    bits::get_eight(bytes, (1usize << (deep - 1)) - 8) >> (64 - (1usize << deep))
+    fields::get_eight(bytes, (1usize << (deep - 1)) - 8) >> (64 - (1usize << deep))
 }
 
 // The 2^deep bits of x, each the first of 2^(6-deep). Each turn halves the words of w bits, and moves the upper halves on to the middle

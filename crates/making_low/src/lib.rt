@@ -34,10 +34,10 @@ fn make_six(bytes: &mut [u8], m: usize, j: usize)
     requires { ⌜ (32 * m ≤ length (now bytes)) × (m ≤ 2048) × (j < m) ⌝ }
     ensures { λ _. ⌜ SixMade m j (now (bytes .entry)) (now (bytes .exit)) ⌝ }
 {
-    let s = sums::sixes::six_rows(bits::get_eight(bytes, 24 * m + 8 * j));
-    bits::put_eight(bytes, 16 * m + 8 * j, s.twos);
-    bits::put_six(bytes, 10 * m + 6 * j, s.fours);
-    bits::put_four(bytes, 6 * m + 4 * j, s.eights as u32);
+    let s = sums::sixes::six_rows(fields::get_eight(bytes, 24 * m + 8 * j));
+    fields::put_eight(bytes, 16 * m + 8 * j, s.twos);
+    fields::put_six(bytes, 10 * m + 6 * j, s.fours);
+    fields::put_four(bytes, 6 * m + 4 * j, s.eights as u32);
     fields::put_field(bytes, 28 * m + 20 * j, 20, s.sixteens as u32);
     fields::put_field(bytes, 16 * m + 12 * j, 12, s.halves as u32);
     fields::put_field(bytes, 9 * m + 7 * j, 7, s.all as u32);

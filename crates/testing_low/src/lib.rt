@@ -40,14 +40,14 @@ fn six_right(bytes: &[u8], m: usize, j: usize) -> bool
     requires { ⌜ (32 * m ≤ length (now bytes)) × (m ≤ 2048) × (j < m) ⌝ }
     ensures { λ r. ⌜ Says (SixAt m (now (bytes .entry)) j) r ⌝ }
 {
-    let s = sums::sixes::six_rows(bits::get_eight(bytes, 24 * m + 8 * j));
-    if bits::get_eight(bytes, 16 * m + 8 * j) != s.twos {
+    let s = sums::sixes::six_rows(fields::get_eight(bytes, 24 * m + 8 * j));
+    if fields::get_eight(bytes, 16 * m + 8 * j) != s.twos {
         return false;
     }
-    if bits::get_eight(bytes, 10 * m + 6 * j) % 0x1_0000_0000_0000 != s.fours {
+    if fields::get_eight(bytes, 10 * m + 6 * j) % 0x1_0000_0000_0000 != s.fours {
         return false;
     }
-    if bits::get_eight(bytes, 6 * m + 4 * j) % 0x1_0000_0000 != s.eights {
+    if fields::get_eight(bytes, 6 * m + 4 * j) % 0x1_0000_0000 != s.eights {
         return false;
     }
     if fields::get_field(bytes, 28 * m + 20 * j, 20) as u64 != s.sixteens {

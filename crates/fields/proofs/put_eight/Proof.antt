@@ -3,11 +3,11 @@ use mathlib.Core.Path.{_≡_, ap₂, _∙_}
 use mathlib.Core.List.{List}
 use Prim.Native.Nat.{ℕ, _+_, _*_, _/_}
 use native.Mathlib.Omega.{arith}
 use Rattle.bits.specs.inner.Puts.{putField}
 use Rattle.bits.proofs.Puts.{put-join}
 use borrow.Author.Needs.{needs}
-use Rattle.bits.proofs.put_eight.Statement.{statement}
-use Rattle.bits.proofs.put_eight.Tie as tie
+use Rattle.fields.proofs.put_eight.Statement.{statement}
+use Rattle.fields.proofs.put_eight.Tie as tie
 
 returns : tie.Need-returns
 returns c =

@@ -3,11 +3,11 @@ use native.Mathlib.Omega.{arith}
 use mathlib.Core.Path.{_≡_, ap}
 use Prim.Native.Nat.{ℕ, _+_, _*_, _-_, _/_, _%_, _^_}
 use lib.ListN.{getD}
 use Rattle.bits.specs.Little.{little}
 use Rattle.bits.proofs.Windows.{field-window}
 use borrow.Author.Needs.{needs}
-use Rattle.bits.proofs.get_eight.Statement.{statement}
-use Rattle.bits.proofs.get_eight.Tie as tie
+use Rattle.fields.proofs.get_eight.Statement.{statement}
+use Rattle.fields.proofs.get_eight.Tie as tie
 
 returns : tie.Need-returns
 unfolding little

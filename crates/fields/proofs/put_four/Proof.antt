@@ -1,9 +1,9 @@
 -- To store four bytes is to put the field of their bits.
 use mathlib.Core.Path.{_∙_}
 use Rattle.bits.proofs.Windows.{put-bytes}
 use borrow.Author.Needs.{needs}
-use Rattle.bits.proofs.put_four.Statement.{statement}
-use Rattle.bits.proofs.put_four.Tie as tie
+use Rattle.fields.proofs.put_four.Statement.{statement}
+use Rattle.fields.proofs.put_four.Tie as tie
 
 returns : tie.Need-returns
 returns c =
