@@ -1,4 +1,5 @@
-// A cut and the leaf bit that names it: where the bit of a node is, whether the node is cut, and whether it may be.
+// Cuts: specs/ and proofs/ have sets of cuts, their leaves and the numbers of these, over any leaf bits. Here is a cut and the leaf bit
+// that names it: where the bit of a node is, whether the node is cut, and whether it may be.
 use nodes::Node;
 ghost use mathlib.Core.Path.{_≡_};
 ghost use Prim.Native.Nat.{_+_, _^_, _≤_, _<_};

@@ -1,5 +1,5 @@
-// Triangles: corners, and the two calls that take no panel. Corners are three points of two coordinates, in the order A, B, C. A point is handed on coordinate by coordinate, so that
-// the six numbers stay in registers on the way down.
+// A node's triangle, and the two calls that take no panel. Corners are three points of two coordinates, in the order A, B, C. A point is
+// handed on coordinate by coordinate, so that the six numbers stay in registers on the way down.
 use answers::Around;
 use answers::Refusal;
 use nodes::Node;
