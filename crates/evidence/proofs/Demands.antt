@@ -34,13 +34,16 @@ use Rattle.panel.proofs.Lengths.{fits-small}
 use Rattle.panel.proofs.GoodPanels.{leaf-in-range, leaf-areas}
 use Rattle.panel.proofs.SameBytes.{bytes-same}
 use Rattle.panel.proofs.Once.{judge-one, count-one, leaf-bits-one, leaf-at-one, number-of-one, open-one, split-one, merge-one}
-use Rattle.requests.specs.Requests.{Called, Step, Run}
 use Rattle.records.specs.Records.{Fine}
-use Rattle.requests.specs.Requests.Called.{opened, refused, split as splits, merge as merges}
-use Rattle.requests.specs.Requests.Step.{bad, call}
-use Rattle.requests.specs.Holding.{Holds}
-use Rattle.requests.proofs.Once.{step-one, run-one}
-use Rattle.requests.proofs.Keeping.{step-refused, run-holds}
+use Rattle.steps.specs.Steps.{Called, Step}
+use Rattle.steps.specs.Steps.Called.{opened, refused, split as splits, merge as merges}
+use Rattle.steps.specs.Steps.Step.{bad, call}
+use Rattle.steps.specs.Holding.{Holds}
+use Rattle.steps.proofs.Keeping.{step-refused}
+use Rattle.steps.proofs.Once.{step-one}
+use Rattle.requests.specs.Requests.{Run}
+use Rattle.requests.proofs.Keeping.{run-holds}
+use Rattle.requests.proofs.Once.{run-one}
 use Rattle.evidence.specs.Known.{Every, knownCases}
 use Rattle.tables.specs.Exactly.{Exactly}
 use Rattle.tables.proofs.Exactness.{Rising, refused-exactly, outcome-under}

@@ -1,74 +1,19 @@
--- What every record keeps: the open panel stays good, and a refusal changes nothing. Before the first accepted open no panel is open.
-use mathlib.Core.Path.{_≡_, refl, sym, ap, _∙_, subst}
-use mathlib.Core.Logic.{_≢_, ⊎-elim}
+-- What every run keeps, as each of its records does: the open panel stays good. Before the first accepted open no panel is open.
+use mathlib.Core.Path.{_≡_, refl, _∙_, subst}
+use mathlib.Core.Logic.{_≢_}
 use mathlib.Core.List.{List, [], _∷_}
-use Prim.Native.Nat.{ℕ, zero, suc, _+_, _<_}
-use native.Mathlib.Decide.{ℕ-discrete}
+use Prim.Native.Nat.{ℕ, _<_}
 use native.Mathlib.Omega.{arith}
 use lib.ListN.{length, getD, length-append, List·getD-append}
 use lib.Seq.{getD-append-seam}
-use Rattle.nodes.specs.Depth.{depthOf}
-use Rattle.tables.specs.Table.{Row, Outcome}
-use Rattle.panel.specs.Panels.{sizeOf, Fits, deepOf, Good}
-use Rattle.requests.specs.Requests.{panelIn, changed, Called, Step, Runs, Run}
-use Rattle.records.specs.Records.{kind, number, recordAt, Fine}
-use Rattle.requests.specs.Requests.Called.{opened, refused, split, merge}
-use Rattle.requests.specs.Requests.Step.{bad, call}
+use Rattle.records.specs.Records.{kind, recordAt, Fine}
+use Rattle.steps.specs.Steps.{Step}
+use Rattle.steps.specs.Holding.{Holds}
+use Rattle.steps.proofs.Keeping.{step-refused, holds-none, step-holds, step-none, step-first}
+use Rattle.requests.specs.Requests.{Runs, Run}
 use Rattle.requests.specs.Requests.Runs.{none, more}
-use Rattle.requests.specs.Holding.{Holds}
-use Rattle.requests.proofs.Parts.{no-room, none-right, panel-changed, same-changed, held-length}
-
--- ---- a refusal changes nothing
-
-called-refused : {k D c n E : ℕ} {b u : List ℕ} → Called k D b c n E u → n ≢ 0 → (E ≡ D) × (u ≡ b)
-called-refused (opened p) z = absurd (z refl)
-called-refused (refused p z) _ = (refl, refl)
-called-refused {D = D} {b = b} (split {t = t} p) z = (refl, same-changed D b t (p .refused z))
-called-refused {D = D} {b = b} (merge {t = t} p) z = (refl, same-changed D b t (p .refused z))
-
--- a refused record keeps the panel before it, and every byte of the buffer
-pub step-refused : {r b u : List ℕ} {D n E : ℕ} → Step r D b n E u → n ≢ 0 → (E ≡ D) × (u ≡ b)
-step-refused (bad f) z = (refl, refl)
-step-refused (call f p) z = called-refused p z
 
 -- ---- the open panel stays good
-
-pub holds-none : (b : List ℕ) → Holds 0 b
-holds-none b = record { good = λ z. absurd (z refl); deep = λ z. absurd (z refl) }
-
--- a good panel of depth D put at the start of the buffer
-pub holds-changed : (D : ℕ) (b t : List ℕ) → Good t → deepOf t ≡ D → length t ≡ sizeOf D → Holds D (changed D b t)
-holds-changed D b t g d l =
-    let e = panel-changed D b t l in
-    record { good = λ _. subst Good (sym e) g; deep = λ _. sym d ∙ ap deepOf (sym e) }
-
--- the panel after a call by a table is good, and as long as before
-module _ {rows : List Row} {Done : List ℕ → Type 0} {s : List ℕ} {n : ℕ} {t : List ℕ} where
-  stays : Good s → (Done t → Good t × (length t ≡ length s)) → Outcome rows (List ℕ) Done (λ x. x ≡ s) n t → Good t × (length t ≡ length s)
-  stays g f o = go (ℕ-discrete n 0)
-    where
-      go : Dec (n ≡ 0) → Good t × (length t ≡ length s)
-      go (yes z) = f (o .done z)
-      go (no z) = (subst Good (sym (o .refused z)) g, ap length (o .refused z))
-
-held-changed : {D : ℕ} {b : List ℕ} (t : List ℕ) → Holds D b → (Good (panelIn D b) → Good t × (length t ≡ length (panelIn D b))) → Holds D (changed D b t)
-held-changed {D = zero} t h f = holds-none _
-held-changed {D = suc d} {b = b} t h f =
-    let z : suc d ≢ 0 = λ e. omega arith in
-    let g = f (h .good z) in
-    holds-changed (suc d) b t (g .0) (ap (λ x. depthOf x + 1) (g .1) ∙ sym (h .deep z)) (g .1 ∙ held-length h z)
-
-called-holds : {k D c n E : ℕ} {b u : List ℕ} → Holds D b → Called k D b c n E u → Holds E u
-called-holds {k} {b = b} h (opened {t = t} p) =
-    let f = p .done refl in
-    holds-changed k b t (f .good) (f .deep) (subst (Fits t) (f .deep) (f .good .fits) .long)
-called-holds h (refused p z) = h
-called-holds h (split {t = t} p) = held-changed t h (λ g. stays g (λ d. (d .good, d .long)) p)
-called-holds h (merge {t = t} p) = held-changed t h (λ g. stays g (λ d. (d .good, d .long)) p)
-
-pub step-holds : {r b u : List ℕ} {D n E : ℕ} → Holds D b → Step r D b n E u → Holds E u
-step-holds h (bad f) = h
-step-holds h (call f p) = called-holds h p
 
 pub runs-holds : {rs b given u : List ℕ} {D : ℕ} → Runs rs b given D u → Holds D u
 runs-holds {b = b} none = holds-none b
@@ -78,33 +23,7 @@ runs-holds (more r s y) = step-holds (runs-holds r) s
 pub run-holds : {rs b out u after : List ℕ} {count D : ℕ} → Run rs b out count D u after → Holds D u
 run-holds r = runs-holds (r .runs)
 
--- ---- where an open is refused
-
--- an open answers 1 where the buffer's bytes fit no panel of the asked depth ..
-pub open-refused : {k D n E : ℕ} {b u : List ℕ} → Called k D b 0 n E u → (Fits (panelIn k b) k → ⊥) → n ≡ 1
-open-refused (opened p) f = ⊎-elim (λ a. a .1) (λ a. absurd (f (a .0))) (p .answer)
-open-refused (refused p z) f = ⊎-elim (λ a. a .1) (λ a. absurd (f (a .0))) (p .answer)
-
--- .. as where the lent buffer is shorter than such a panel
-pub short-refused : {k D n E : ℕ} {b u : List ℕ} → Called k D b 0 n E u → length b < sizeOf k → n ≡ 1
-short-refused {k} {b = b} p h = open-refused p (no-room k b h)
-
 -- ---- before the first accepted open
-
--- where no panel is open, split and merge answer 1
-called-none : {k c n E : ℕ} {b u : List ℕ} → Called k 0 b c n E u → c ≢ 0 → n ≡ 1
-called-none (opened p) z = absurd (z refl)
-called-none (refused p y) z = absurd (z refl)
-called-none (split p) z = ⊎-elim (λ a. a .1) (λ a. absurd (none-right (a .0))) (p .answer)
-called-none (merge p) z = ⊎-elim (λ a. a .1) (λ a. absurd (none-right (a .0))) (p .answer)
-
-step-none : {r b u : List ℕ} {n E : ℕ} → Step r 0 b n E u → (Fine r → kind r ≡ 0 → n ≢ 0) → n ≢ 0
-step-none (bad f) h = λ e. omega arith
-step-none {r} {n = n} (call f p) h = go (ℕ-discrete (kind r) 0)
-  where
-    go : Dec (kind r ≡ 0) → n ≢ 0
-    go (yes e) = h f e
-    go (no z) = λ e. omega (arith, called-none p z)
 
 -- none of the first records is an open that was accepted
 abbrev pub NoneOpened : List ℕ → List ℕ → Type 0
@@ -121,11 +40,6 @@ none-opened {rs} (more {given = g} {t = t} {u = u} {E = E} {n = n} r s y) h =
     (k .0, k .1 ∙ i .1)
 
 -- and split and merge answer 1
-step-first : {r b u : List ℕ} {D n E : ℕ} → D ≡ 0 → Step r D b n E u → Fine r → kind r ≢ 0 → n ≡ 1
-step-first e (bad g) f z = absurd (g f)
-step-first {r} {b} {u} {n = n} {E = E} e (call g p) f z =
-    called-none (subst (λ x. Called (number r) x b (kind r) n E u) e p) z
-
 pub before-first-open :
     {rs b given u v : List ℕ} {D n E : ℕ} → Runs rs b given D u → NoneOpened rs given
     → Step (recordAt rs (length given)) D u n E v → Fine (recordAt rs (length given)) → kind (recordAt rs (length given)) ≢ 0

@@ -1,5 +1,3 @@
-pub mod Answering
 pub mod Keeping
 pub mod Once
-pub mod Parts
 pub mod Turns

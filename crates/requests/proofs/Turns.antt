@@ -8,8 +8,9 @@ use native.Mathlib.Omega.{arith}
 use lib.ListN.{length, take, drop, set, length-set}
 use lib.Seq.{take-suc-set, drop-set-lt, drop-drop, length-take-le}
 use Rattle.bits.specs.Bits.{Bytes}
-use Rattle.requests.specs.Requests.{Step, Runs, Run}
 use Rattle.records.specs.Records.{recordAt, recordCount}
+use Rattle.steps.specs.Steps.{Step}
+use Rattle.requests.specs.Requests.{Runs, Run}
 use Rattle.requests.specs.Requests.Runs.{none, more}
 
 -- count is how many are answered; after i records the depth is D, the buffer u and the answers' buffer after

@@ -1,3 +1,1 @@
 pub mod Requests
-pub mod Holding
-pub mod inner

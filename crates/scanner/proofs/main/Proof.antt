@@ -4,9 +4,9 @@ use native.Mathlib.Omega.{arith}
 use lib.ListN.{length-take}
 use lib.Seq.{length-take-le}
 use borrow.Author.Needs.{needs}
-use Rattle.requests.specs.Holding.{Holds}
+use Rattle.steps.specs.Holding.{Holds}
+use Rattle.steps.proofs.Answering.{lent-small, lent-inside, lent-good}
 use Rattle.requests.proofs.Keeping.{run-holds}
-use Rattle.requests.proofs.Answering.{lent-small, lent-inside, lent-good}
 use Rattle.scanner.proofs.main.Statement.{statement}
 use Rattle.scanner.proofs.main.Tie as tie
 

@@ -1,10 +1,10 @@
 -- The call is lent the bytes that a panel of the asked depth takes; where they are too few, or the depth too great, they fit none.
 use native.Mathlib.Omega.{arith}
 use lib.ListN.{length-take}
-use Rattle.requests.proofs.Answering.{called-kept, too-deep, too-short, open-done, open-no}
+use Rattle.steps.proofs.Answering.{called-kept, too-deep, too-short, open-done, open-no}
 use borrow.Author.Needs.{needs}
-use Rattle.requests.proofs.stepping.open.Statement.{statement}
-use Rattle.requests.proofs.stepping.open.Tie as tie
+use Rattle.steps.proofs.open.Statement.{statement}
+use Rattle.steps.proofs.open.Tie as tie
 
 returns : tie.Need-returns
 returns c = called-kept (c .kept .ensures) (too-deep _ _ _ (c .before .if1 .taken))

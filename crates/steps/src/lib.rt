@@ -7,9 +7,9 @@ ghost use mathlib.Core.Path.{_≡_};
 ghost use Prim.Native.Nat.{_≤_};
 ghost use Rattle.answers.specs.Refusals.{refusalNumber, answerNumber};
 ghost use Rattle.panel.specs.Panels.{deepOf, Good};
-ghost use Rattle.requests.specs.Requests.{Called, Step};
-ghost use Rattle.requests.specs.inner.Changing.{Change};
-ghost use Rattle.requests.specs.Holding.{Holds};
+ghost use Rattle.steps.specs.Steps.{Called, Step};
+ghost use Rattle.steps.specs.inner.Changing.{Change};
+ghost use Rattle.steps.specs.Holding.{Holds};
 
 // What a record comes to: its answer, and the depth of the panel that is open after it, or 0.
 pub struct Stepped {

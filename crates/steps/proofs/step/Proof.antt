@@ -2,11 +2,11 @@
 use mathlib.Core.Path.{refl, sym}
 use native.Mathlib.Omega.{arith}
 use Rattle.records.specs.Records.{Fine}
-use Rattle.requests.specs.Requests.Step.{bad}
-use Rattle.requests.proofs.Answering.{step-call, step-kept}
+use Rattle.steps.specs.Steps.Step.{bad}
+use Rattle.steps.proofs.Answering.{step-call, step-kept}
 use borrow.Author.Needs.{needs}
-use Rattle.requests.proofs.stepping.step.Statement.{statement}
-use Rattle.requests.proofs.stepping.step.Tie as tie
+use Rattle.steps.proofs.step.Statement.{statement}
+use Rattle.steps.proofs.step.Tie as tie
 
 -- past the first test the record is fine
 is-fine : (c : tie.Then1) → Fine (c .before .before .before .before .args .request .now)

@@ -4,11 +4,11 @@ use mathlib.Core.Path.{sym, ap, _∙_, subst}
 use lib.ListN.{length}
 use native.Mathlib.Omega.{arith}
 use Prim.Native.Nat.{_-_, _<_, min}
-use Rattle.requests.proofs.Answering.{answer-byte}
+use Rattle.steps.proofs.Answering.{answer-byte}
 use Rattle.requests.proofs.Turns.{Turned, turned-none, turned-room, turned-more, turned-end}
 use Rattle.requests.proofs.Keeping.{runs-holds}
-use Rattle.requests.proofs.running.run.Statement.{statement}
-use Rattle.requests.proofs.running.run.Tie as tie
+use Rattle.requests.proofs.run.Statement.{statement}
+use Rattle.requests.proofs.run.Tie as tie
 
 abbrev Inv-loop : tie.InvT-loop
 Inv-loop records buffer₀ answers₀ count deep₀ i₀ buffer answers deep i = Turned records buffer₀ answers₀ count buffer answers deep i

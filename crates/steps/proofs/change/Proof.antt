@@ -1,9 +1,9 @@
 -- The kind picks the call, and each call has its own contract.
 use native.Mathlib.Omega.{arith}
 use borrow.Author.Needs.{needs}
-use Rattle.requests.proofs.Answering.{kind-split, kind-merge}
-use Rattle.requests.proofs.stepping.change.Statement.{statement}
-use Rattle.requests.proofs.stepping.change.Tie as tie
+use Rattle.steps.proofs.Answering.{kind-split, kind-merge}
+use Rattle.steps.proofs.change.Statement.{statement}
+use Rattle.steps.proofs.change.Tie as tie
 
 returns : tie.Need-returns
 returns c = let s = c .before .before in kind-split (s .before .before .if1 .taken) (s .split .ensures)

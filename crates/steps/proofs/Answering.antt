@@ -16,14 +16,14 @@ use Rattle.tables.proofs.Tables.{is-refused}
 use Rattle.panel.specs.Panels.{sizeOf, Fits, deepOf, Good}
 use Rattle.panel.specs.Calls.{Open, Split, Merge}
 use Rattle.panel.proofs.Lengths.{fits-small}
-use Rattle.requests.specs.Requests.{panelIn, changed, Called, Step}
 use Rattle.records.specs.Records.{kind, number, Fine}
-use Rattle.requests.specs.Requests.Called.{opened, refused, split, merge}
-use Rattle.requests.specs.Requests.Step.{call}
-use Rattle.requests.specs.inner.Changing.{Change}
-use Rattle.requests.specs.inner.Changing.Change.{split as splits, merge as merges}
-use Rattle.requests.specs.Holding.{Holds}
-use Rattle.requests.proofs.Parts.{no-room, none-right, same-changed, held-fits, held-inside}
+use Rattle.steps.specs.Steps.{panelIn, changed, Called, Step}
+use Rattle.steps.specs.Steps.Called.{opened, refused, split, merge}
+use Rattle.steps.specs.Steps.Step.{call}
+use Rattle.steps.specs.inner.Changing.{Change}
+use Rattle.steps.specs.inner.Changing.Change.{split as splits, merge as merges}
+use Rattle.steps.specs.Holding.{Holds}
+use Rattle.steps.proofs.Parts.{no-room, none-right, same-changed, held-fits, held-inside}
 
 -- ---- open
 

@@ -1,10 +1,10 @@
--- What a run keeps true of the lent buffer.
+-- What every record keeps true of the lent buffer.
 use mathlib.Core.Path.{_≡_}
 use mathlib.Core.Logic.{_≢_}
 use mathlib.Core.List.{List}
 use Prim.Native.Nat.{ℕ}
 use Rattle.panel.specs.Panels.{deepOf, Good}
-use Rattle.requests.specs.Requests.{panelIn}
+use Rattle.steps.specs.Steps.{panelIn}
 
 -- the panel of depth D at the start of the buffer is good, or none is open
 pub record Holds (D : ℕ) (b : List ℕ) : Type 0 where

@@ -2,9 +2,9 @@
 use mathlib.Core.Path.{sym}
 use lib.Seq.{length-take-le}
 use borrow.Author.Needs.{needs}
-use Rattle.requests.proofs.Answering.{none-called, lent-small, lent-inside, lent-good, lent-called}
-use Rattle.requests.proofs.stepping.change_open.Statement.{statement}
-use Rattle.requests.proofs.stepping.change_open.Tie as tie
+use Rattle.steps.proofs.Answering.{none-called, lent-small, lent-inside, lent-good, lent-called}
+use Rattle.steps.proofs.change_open.Statement.{statement}
+use Rattle.steps.proofs.change_open.Tie as tie
 
 returns : tie.Need-returns
 returns c = let p = c .before .before .pre in none-called _ _ _ _ (p .1) (p .2) (c .if1 .taken)

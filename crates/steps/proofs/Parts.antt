@@ -10,8 +10,8 @@ use lib.Seq.{take-at}
 use Rattle.bits.specs.Bits.{Bytes}
 use Rattle.panel.specs.Panels.{sizeOf, Fits, RightLength}
 use Rattle.panel.proofs.Lengths.{length-least}
-use Rattle.requests.specs.Requests.{panelIn, changed}
-use Rattle.requests.specs.Holding.{Holds}
+use Rattle.steps.specs.Steps.{panelIn, changed}
+use Rattle.steps.specs.Holding.{Holds}
 
 -- ---- the panel at the start of the buffer
 

@@ -1,0 +1,4 @@
+pub mod Answering
+pub mod Keeping
+pub mod Once
+pub mod Parts
