@@ -1,6 +1,6 @@
 // Bits, bytes and numbers of several bytes in lent bytes.
 ghost use mathlib.Core.Path.{_≡_};
-ghost use Prim.Native.Nat.{_+_, _*_, _/_, _%_, _^_, _≤_, _<_};
+ghost use Prim.Native.Nat.{_+_, _*_, _/_, _%_, _≤_, _<_};
 ghost use lib.ListN.{length, getD, set};
 ghost use Rattle.bits.specs.Bits.{bit, field};
 ghost use Rattle.bits.specs.inner.Puts.{putBit, putField};
