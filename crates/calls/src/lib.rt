@@ -1,4 +1,4 @@
-// The public calls on a lent panel that judge it, then hand it on; `judge` and `open` stand in crate `panel`.
+// The public calls on a lent panel that judge it, then hand it on; `judge` stands in crate `panel`, `open` in `opening`.
 pub mod reading; // the calls `count`, `leaf_at`, `number_of` and `leaf_bits`
 pub mod changing; // the calls `split` and `merge`
 

@@ -48,7 +48,7 @@ pub extern "C" fn node_corners(
 pub extern "C" fn panel_open(panel: &mut [u8], depth: u32) -> u32
     ensures { λ r. ⌜ Open (now (panel .entry)) depth r (now (panel .exit)) ⌝ }
 {
-    panel::open(panel, depth).number()
+    opening::open(panel, depth).number()
 }
 
 // Whether the panel is good.

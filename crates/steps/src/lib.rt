@@ -39,7 +39,7 @@ fn open(buffer: &mut [u8], deep: usize, depth: u32) -> Stepped
     if buffer.len() < len {
         return kept(deep, Refusal::WrongLength);
     }
-    let answer = panel::opening::open(&mut buffer[..len], depth);
+    let answer = opening::open(&mut buffer[..len], depth);
     match answer {
         Answer::Done => Stepped {
             answer: Answer::Done,

@@ -4,8 +4,8 @@ use native.Mathlib.Omega.{arith}
 use lib.ListN.{length}
 use borrow.Author.Needs.{needs}
 use Rattle.tables.proofs.Tables.{says-no, says-equal}
-use Rattle.panel.proofs.opening.fits.Statement.{statement}
-use Rattle.panel.proofs.opening.fits.Tie as tie
+use Rattle.opening.proofs.fits.Statement.{statement}
+use Rattle.opening.proofs.fits.Tie as tie
 
 returns : tie.Need-returns
 returns c = says-no (λ f. omega (arith, f .low))

@@ -1,12 +1,12 @@
-// Opening a lent panel.
-use crate::sizes::size;
+// Opening a lent panel: the call `open`.
 use answers::Answer;
 use answers::Refusal;
+use panel::size;
 ghost use Rattle.answers.specs.Refusals.{answerNumber};
 ghost use Rattle.tables.specs.inner.Says.{Says};
 ghost use Rattle.panel.specs.Panels.{Fits};
 ghost use Rattle.panel.specs.Calls.{Fresh, Open};
-ghost use Rattle.panel.specs.inner.Opening.{Cleared};
+ghost use Rattle.opening.specs.inner.Opening.{Cleared};
 
 // Whether a panel of this depth has this length.
 fn fits(panel: &[u8], depth: u32) -> bool

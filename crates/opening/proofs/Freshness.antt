@@ -19,12 +19,12 @@ use Rattle.words.proofs.Slots.{wide, packed, from-zero, from-one, word-put-same
 use Rattle.words.proofs.Leaves.{length-put-leaf, leaf-put-same, leaf-put-other, bit-put-leaf, word-put-leaf}
 use Rattle.sums.proofs.Unique.{summed-leaf, summed-right}
 use Rattle.cuts.specs.Cuts.{named, Cut, GoodCuts}
 use Rattle.panel.specs.Panels.{Fits, deepOf}
 use Rattle.panel.specs.Calls.{Fresh}
 use Rattle.cuts.specs.inner.Steps.{CutPlace}
-use Rattle.panel.specs.inner.Opening.{Cleared}
+use Rattle.opening.specs.inner.Opening.{Cleared}
 use Rattle.cuts.proofs.Places.{cutPlace, cut-place, cut-set}
 use Rattle.panel.proofs.Lengths.{fits-small, fits-deep, fits-right, fits-room}
 
 -- ---- the only cut
 

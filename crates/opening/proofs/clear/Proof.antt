@@ -7,8 +7,8 @@ use lib.ListN.{length, getD, length-set, List·getD-eq-default}
 use lib.Seq.{getD-set-same}
 use borrow.Author.Count.{below-more}
 use Rattle.bits.proofs.Laws.{all-set, le-or-lt}
-use Rattle.panel.proofs.opening.clear.Statement.{statement}
-use Rattle.panel.proofs.opening.clear.Tie as tie
+use Rattle.opening.proofs.clear.Statement.{statement}
+use Rattle.opening.proofs.clear.Tie as tie
 
 abbrev Inv-loop : tie.InvT-loop
 Inv-loop bytes₀ i₀ bytes i = (length bytes ≡ length bytes₀) × (i ≤ length bytes) × ((k : ℕ) → k < i → getD bytes k 0 ≡ 0)

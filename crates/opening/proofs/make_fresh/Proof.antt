@@ -8,10 +8,10 @@ use Rattle.bits.proofs.Laws.{one-shl}
 use Rattle.words.specs.inner.Working.{putLeafBit, Room}
 use Rattle.sums.specs.inner.Summed.{Summed}
 use Rattle.words.proofs.Rooms.{room-same}
 use Rattle.panel.proofs.Lengths.{fits-small}
-use Rattle.panel.proofs.Freshness.{depth-fits, fresh, half, room}
-use Rattle.panel.proofs.opening.make_fresh.Statement.{statement}
-use Rattle.panel.proofs.opening.make_fresh.Tie as tie
+use Rattle.opening.proofs.Freshness.{depth-fits, fresh, half, room}
+use Rattle.opening.proofs.make_fresh.Statement.{statement}
+use Rattle.opening.proofs.make_fresh.Tie as tie
 
 -- ---- the bytes have room after each step
 

@@ -4,8 +4,8 @@ use mathlib.Core.Logic.{inl, inr}
 use native.Mathlib.Omega.{arith}
 use borrow.Author.Needs.{needs}
 use Rattle.tables.proofs.Tables.{is-done, is-refused}
-use Rattle.panel.proofs.opening.open.Statement.{statement}
-use Rattle.panel.proofs.opening.open.Tie as tie
+use Rattle.opening.proofs.open.Statement.{statement}
+use Rattle.opening.proofs.open.Tie as tie
 
 make-fresh-requires : tie.Need-make-fresh-requires
 make-fresh-requires c κs = c .before .before .fits2 .ensures .yes (c .before .if1 .taken)
