@@ -13,7 +13,7 @@ use Rattle.nodes.specs.Limits.{KnownNode}
 use Rattle.nodes.specs.Neighbours.{none, neighboursOf, edge}
 use Rattle.triangles.specs.Corners.{Triangle, InPanel, cornersOf, twiceArea}
 use Rattle.tables.specs.Table.{Row, unless, Outcome}
-use Rattle.triangles.specs.Calls.{nodeRows, Neighbours, noCorners, Corners}
+use Rattle.node_calls.specs.Calls.{nodeRows, Neighbours, noCorners, Corners}
 use Rattle.nodes.proofs.Depths.{depth-le}
 use Rattle.nodes.proofs.Edges.{edge-depth, edge-mutual}
 use Rattle.nodes.proofs.Limits.{known-shallow}
@@ -22,7 +22,7 @@ use Rattle.triangles.proofs.Sides.{Across, Beside, edge-across, left-beside}
 use Rattle.triangles.proofs.Borders.{Border, border}
 use Rattle.triangles.proofs.Cornering.{in-panel}
 use Rattle.triangles.proofs.Areas.{area-is}
-use Rattle.triangles.proofs.Outcomes.{neighbours-one, corners-one}
+use Rattle.node_calls.proofs.Outcomes.{neighbours-one, corners-one}
 use Rattle.sums.specs.Rank.{rank}
 use Rattle.words.specs.Words.{word, leafBit}
 use Rattle.sums.proofs.Counts.{word-all}

@@ -13,7 +13,7 @@ use Rattle.nodes.specs.Limits.{greatestDepth}
 use Rattle.nodes.specs.Neighbours.{neighboursOf, neighboursAt}
 use Rattle.triangles.specs.Corners.{cornersOf, cornersAt}
 use Rattle.tables.specs.Table.{Answers}
-use Rattle.triangles.specs.Calls.{nodeRows}
+use Rattle.node_calls.specs.Calls.{nodeRows}
 use Rattle.tables.proofs.Tables.{is-done}
 use Rattle.sums.specs.Rank.{rank}
 use Rattle.words.specs.Words.{word, leafBit}

@@ -5,7 +5,7 @@ use Prim.Native.Nat.{ℕ, suc}
 use lib.ListN.{length}
 use Rattle.nodes.specs.declared.triples.Triple.{Triple}
 use Rattle.triangles.specs.Corners.{Triangle, point, triangle}
-use Rattle.triangles.specs.Calls.{Neighbours, Corners}
+use Rattle.node_calls.specs.Calls.{Neighbours, Corners}
 use Rattle.panel.specs.Calls.{Judged, Count, LeafAt, Open, Split, Merge}
 
 -- ---- what a case is

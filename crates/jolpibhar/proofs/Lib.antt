@@ -1,2 +1,1 @@
 pub mod LeafParts
-pub mod SixNumbers

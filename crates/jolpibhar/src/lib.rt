@@ -1,7 +1,7 @@
 // The calls for C and Rust: numbers and lent bytes only, the answer's number returned. Each promises what the call behind it does.
 use nodes::LeafNumber;
 use nodes::Node;
-ghost use Rattle.triangles.specs.Calls.{Neighbours, Corners};
+ghost use Rattle.node_calls.specs.Calls.{Neighbours, Corners};
 ghost use Rattle.triangles.specs.Corners.{point, triangle};
 ghost use Rattle.panel.specs.Calls.{Open, Judged, Count, LeafAt, NumberOf, Split, Merge};
 ghost use Rattle.jolpibhar.specs.Parts.{LeafBytes};
@@ -11,7 +11,7 @@ ghost use Rattle.jolpibhar.specs.Parts.{LeafBytes};
 pub extern "C" fn node_neighbours(node: u32, left: &mut u32, right: &mut u32, edge: &mut u32) -> u32
     ensures { λ r. ⌜ Neighbours node r (record { left = now (left .exit); right = now (right .exit); edge = now (edge .exit) }) ⌝ }
 {
-    let around = triangles::neighbours(Node(node));
+    let around = node_calls::neighbours(Node(node));
     let t = around.triple();
     *left = t.left;
     *right = t.right;
@@ -32,15 +32,7 @@ pub extern "C" fn node_corners(
 ) -> u32
     ensures { λ r. ⌜ Corners node r (triangle (point (now (ax .exit)) (now (ay .exit))) (point (now (bx .exit)) (now (by .exit))) (point (now (cx .exit)) (now (cy .exit)))) ⌝ }
 {
-    let mut answer: u32 = 0;
-    let t = triangles::corners(Node(node), &mut answer);
-    *ax = t[0][0];
-    *ay = t[0][1];
-    *bx = t[1][0];
-    *by = t[1][1];
-    *cx = t[2][0];
-    *cy = t[2][1];
-    answer
+    node_calls::corners_told(Node(node), ax, ay, bx, by, cx, cy)
 }
 
 // Opens the panel: writes every byte of it, or refuses with 1 and writes none.

@@ -1,9 +1,35 @@
 // Making every sum right, from the leaf bits up: from depth 6 on the six lowest rows 64 leaf bits at a time, before it the three lowest
 // rows eight leaf bits at a time; the others word by word.
-ghost use Prim.Native.Nat.{_+_, _^_, _≤_, _<_};
+ghost use Prim.Native.Nat.{_+_, _-_, _*_, _^_, _≤_, _<_};
+ghost use lib.ListN.{length};
 ghost use Rattle.words.specs.inner.Working.{Room};
 ghost use Rattle.sums.specs.inner.Summed.{Summed};
-ghost use Rattle.sums.specs.inner.Rows.{Made};
+ghost use Rattle.sums.specs.inner.Rows.{Made, SevenMade};
+
+// Makes the three lowest rows, the highest of m words, over the eight leaf bits from bit 8 i on. The leaf bits are the last m bytes of
+// 4 m, and the row above them fills the m bytes before.
+fn make_seven(bytes: &mut [u8], m: usize, i: usize)
+    requires { ⌜ (4 * m ≤ length (now bytes)) × (m ≤ 16384) × (i < m) ⌝ }
+    ensures { λ _. ⌜ SevenMade m i (now (bytes .entry)) (now (bytes .exit)) ⌝ }
+{
+    let s = sums::sevens::seven(bits::get_byte(bytes, 3 * m + i));
+    bits::put_byte(bytes, 2 * m + i, s % 256);
+    fields::put_field(bytes, 10 * m + 6 * i, 6, s / 256 % 64);
+    fields::put_field(bytes, 6 * m + 4 * i, 4, s / 16384);
+}
+
+// Rows deep - 3 to deep - 1.
+fn make_lowest_three(bytes: &mut [u8], deep: usize)
+    requires { ⌜ Room deep (now bytes) ⌝ }
+    ensures { λ _. ⌜ Made deep (2 ^ (deep - 3)) (2 ^ deep) (now (bytes .entry)) (now (bytes .exit)) ⌝ }
+{
+    let m: usize = 1 << (deep - 3);
+    let mut i: usize = 0;
+    while i < m {
+        make_seven(bytes, m, i);
+        i += 1;
+    }
+}
 
 // Row d: word k starts at bit p, word 2k at bit c.
 fn make_row(bytes: &mut [u8], deep: usize, d: usize)
@@ -43,10 +69,10 @@ pub fn make_sums(bytes: &mut [u8], deep: usize)
     ensures { λ _. ⌜ Summed deep (now (bytes .entry)) (now (bytes .exit)) ⌝ }
 {
     if deep < 6 {
-        making_low::make_lowest_three(bytes, deep);
+        make_lowest_three(bytes, deep);
         make_high_rows(bytes, deep, deep - 3);
     } else {
-        making_low::make_lowest_six(bytes, deep);
+        making_six::make_lowest_six(bytes, deep);
         make_high_rows(bytes, deep, deep - 6);
     }
 }

@@ -4,5 +4,4 @@ pub mod Borders
 pub mod CornerDescents
 pub mod Cornering
 pub mod Midpoints
-pub mod Outcomes
 pub mod Sides

@@ -1,13 +1,8 @@
-// A node's triangle, and the two calls that take no panel. Corners are three points of two coordinates, in the order A, B, C. A point is
-// handed on coordinate by coordinate, so that the six numbers stay in registers on the way down.
-use answers::Around;
-use answers::Refusal;
+// A node's corners: three points of two coordinates, in the order A, B, C. A point is handed on coordinate by coordinate, so that the six numbers stay in registers on the way down.
 use nodes::Node;
 ghost use mathlib.Core.Path.{_≡_};
 ghost use Prim.Native.Nat.{_+_, _/_, _%_, _≤_};
 ghost use Rattle.triangles.specs.Corners.{InPanel, firstTriangle, leftTriangle, rightTriangle, cornersOf};
-ghost use Rattle.triangles.specs.Calls.{Neighbours, Corners};
-ghost use Rattle.answers.specs.Refusals.{aroundNumber, aroundTriple};
 
 // The middle between two coordinates.
 fn middle(a: u32, c: u32) -> u32
@@ -66,27 +61,4 @@ pub fn corners_of(n: Node) -> [[u32; 2]; 3]
         }
     }
     t
-}
-
-// The corners of n, and into `answer` the answer's number; refused below 2 and above the greatest node.
-pub fn corners(n: Node, answer: &mut u32) -> [[u32; 2]; 3]
-    ensures { λ r. ⌜ Corners (n .0) (now (answer .exit)) r ⌝ }
-{
-    if !nodes::known(n) {
-        let refusal = Refusal::NoSuchNode;
-        *answer = refusal.number();
-        return [[0, 0], [0, 0], [0, 0]];
-    }
-    *answer = 0;
-    corners_of(n)
-}
-
-// The neighbours of n; refused below 2 and above the greatest node.
-pub fn neighbours(n: Node) -> Around
-    ensures { λ r. ⌜ Neighbours (n .0) (aroundNumber r) (aroundTriple r) ⌝ }
-{
-    if !nodes::known(n) {
-        return Around::No(Refusal::NoSuchNode);
-    }
-    Around::Neighbours(nodes::triple_of(n))
 }

@@ -1,0 +1,58 @@
+-- The rows are right where they are over each eight leaf bits.
+use mathlib.Core.Path.{subst, subst⁻¹}
+use Prim.Native.Nat.{ℕ, _-_, _<_}
+use native.Mathlib.Omega.{arith}
+use lib.ListN.{length}
+use borrow.Author.Count.{below-none, below-more}
+use Rattle.tables.proofs.Tables.{says-yes, says-no}
+use Rattle.sums.specs.inner.Rows.{SevenAt}
+use Rattle.words.proofs.Rooms.{Quarter, quarter}
+use Rattle.sums.proofs.LowThree.{sevens-sums, sums-seven}
+use Rattle.testing.proofs.lowest_three.Statement.{statement}
+use Rattle.testing.proofs.lowest_three.Tie as tie
+
+abbrev Inv-loop : tie.InvT-loop
+Inv-loop bytes deep m i₀ i = Quarter deep (length bytes) m × ((k : ℕ) → k < i → SevenAt m bytes k)
+
+abbrev μ-loop : tie.MeasureT-loop
+μ-loop bytes deep m i₀ i = m - i
+
+sub-m : tie.Need-sub-m Inv-loop μ-loop
+sub-m c = omega arith
+
+shl-m : tie.Need-shl-m Inv-loop μ-loop
+shl-m c = omega arith
+
+loop-holds : tie.Need-loop-holds Inv-loop μ-loop
+loop-holds c = (quarter (c .before .pre), below-none _)
+
+seven-right-requires : tie.Need-seven-right-requires Inv-loop μ-loop
+seven-right-requires c κs = omega arith
+
+add-i : tie.Need-add-i Inv-loop μ-loop
+add-i c = omega arith
+
+loop-less : tie.Need-loop-less Inv-loop μ-loop
+loop-less c = omega arith
+
+loop-again : tie.Need-loop-again Inv-loop μ-loop
+loop-again c =
+    let l = c .before .before .before .loop in
+    (l .inv .0, below-more _ _ (l .inv .1) (c .before .seven-right .ensures .yes (c .if1 .taken)))
+
+returns : tie.Need-returns Inv-loop μ-loop
+returns c =
+    let l = c .before .before .before .loop in
+    let a = c .before .before .before .before .before .args in
+    says-no (λ s. c .before .seven-right .ensures .no (c .if1 .left) (subst⁻¹ (λ (m : ℕ). SevenAt m (a .bytes .now) (l .i)) (l .inv .0 .is) (sums-seven (a .deep) (a .deep - 3) (omega arith) (a .bytes .now) (l .i) (omega arith) s)))
+
+returns-2 : tie.Need-returns-2 Inv-loop μ-loop
+returns-2 c =
+    let l = c .before .loop in
+    let a = c .before .before .before .args in
+    says-yes (sevens-sums (a .deep) (a .deep - 3) (omega arith) (a .bytes .now) (λ k h. subst (λ (m : ℕ). SevenAt m (a .bytes .now) k) (l .inv .0 .is) (l .inv .1 k (omega arith))))
+
+pub lowest-three-spec : {M : Type 1} → statement M
+lowest-three-spec =
+    tie.close
+    (tie.spec Inv-loop μ-loop sub-m shl-m loop-holds seven-right-requires add-i loop-less loop-again returns returns-2)
