@@ -1,4 +1,4 @@
-//! Links the proved archive that is for measuring alone, which `rt staticlib measures` writes, and the ordinary version in C, which it
+//! Links the proved archive that is for measuring alone, which `.ci/archive measures` writes, and the ordinary version in C, which it
 //! compiles. The exported calls come with the crate `jolpibhar`.
 
 use std::path::{Path, PathBuf};
@@ -16,7 +16,7 @@ fn main() {
     println!("cargo:rerun-if-changed={}", archive.display());
     if !archive.exists() {
         println!(
-            "cargo:warning=target/staticlib/libmeasures.a is not there: run `rt staticlib measures` first"
+            "cargo:warning=target/staticlib/libmeasures.a is not there: run `.ci/archive measures` first"
         );
     }
     println!("cargo:rustc-link-search=native={}", folder.display());

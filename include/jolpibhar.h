@@ -9,7 +9,8 @@
  *
  * Threads: calls share nothing, there is no global state. Calls on different panels may run at the same time; a panel that
  * a call writes is lent to that one call alone.
- * Platforms: the archive is for x86-64 Linux. Numbers and bytes are the same on any machine.
+ * Platforms: the archive is for x86-64 Linux; on an Arm machine `.ci/archive` compiles the same modules for that one. Numbers and
+ * bytes are the same on any machine.
  */
 #ifndef JOLPIBHAR_H
 #define JOLPIBHAR_H
@@ -19,8 +20,8 @@
 
 #define JOLPIBHAR_VERSION_MAJOR 0
 #define JOLPIBHAR_VERSION_MINOR 2
-#define JOLPIBHAR_VERSION_PATCH 0
-#define JOLPIBHAR_VERSION "0.2.0"
+#define JOLPIBHAR_VERSION_PATCH 1
+#define JOLPIBHAR_VERSION "0.2.1"
 
 /* The bytes of a panel of depth D, 3 to 14. Where D is a constant it is one too: uint8_t panel[PANEL_BYTES(14)]; */
 #define PANEL_BYTES(D) ((size_t)1 << ((D) - 1))

@@ -1,4 +1,4 @@
-//! Links the proved archive, which `rt staticlib jolpibhar` writes.
+//! Links the proved archive, which `.ci/archive jolpibhar` writes.
 
 use std::path::Path;
 
@@ -9,7 +9,7 @@ fn main() {
     println!("cargo:rerun-if-changed={}", archive.display());
     if !archive.exists() {
         println!(
-            "cargo:warning=target/staticlib/libjolpibhar.a is not there: run `rt staticlib jolpibhar` first"
+            "cargo:warning=target/staticlib/libjolpibhar.a is not there: run `.ci/archive jolpibhar` first"
         );
     }
     println!("cargo:rustc-link-search=native={}", folder.display());

@@ -33,7 +33,7 @@
 //! # Ok::<(), Refusal>(())
 //! ```
 //!
-//! To link, run `rt staticlib jolpibhar` in the repository first: it proves the calls and writes the archive.
+//! To link, run `.ci/archive jolpibhar` in the repository first: it proves the calls and writes the archive.
 
 #[doc(hidden)]
 pub mod exports;

@@ -1,39 +1,8 @@
-// The calls for C and Rust: numbers and lent bytes only, the answer's number returned. Each promises what the call behind it does.
+// The calls for C and Rust on a panel: numbers and lent bytes only, the answer's number returned. Each promises what the call behind it does.
 use nodes::LeafNumber;
 use nodes::Node;
-ghost use Rattle.node_calls.specs.Calls.{Neighbours, Corners};
-ghost use Rattle.triangles.specs.Corners.{point, triangle};
 ghost use Rattle.panel.specs.Calls.{Open, Judged, Count, LeafAt, NumberOf, Split, Merge};
 ghost use Rattle.jolpibhar.specs.Parts.{LeafBytes};
-
-// The neighbours of a node; 0 is none.
-#[no_mangle]
-pub extern "C" fn node_neighbours(node: u32, left: &mut u32, right: &mut u32, edge: &mut u32) -> u32
-    ensures { λ r. ⌜ Neighbours node r (record { left = now (left .exit); right = now (right .exit); edge = now (edge .exit) }) ⌝ }
-{
-    let around = node_calls::neighbours(Node(node));
-    let t = around.triple();
-    *left = t.left;
-    *right = t.right;
-    *edge = t.edge;
-    around.number()
-}
-
-// The corners A, B, C of a node.
-#[no_mangle]
-pub extern "C" fn node_corners(
-    node: u32,
-    ax: &mut u32,
-    ay: &mut u32,
-    bx: &mut u32,
-    by: &mut u32,
-    cx: &mut u32,
-    cy: &mut u32,
-) -> u32
-    ensures { λ r. ⌜ Corners node r (triangle (point (now (ax .exit)) (now (ay .exit))) (point (now (bx .exit)) (now (by .exit))) (point (now (cx .exit)) (now (cy .exit)))) ⌝ }
-{
-    node_calls::corners_told(Node(node), ax, ay, bx, by, cx, cy)
-}
 
 // Opens the panel: writes every byte of it, or refuses with 1 and writes none.
 #[no_mangle]

@@ -1,7 +1,7 @@
 -- The numbers told are those of the answer that `neighbours` gives.
 use borrow.Author.Needs.{needs}
-use Rattle.jolpibhar.proofs.node_neighbours.Statement.{statement}
-use Rattle.jolpibhar.proofs.node_neighbours.Tie as tie
+use Rattle.jolpibhar_nodes.proofs.node_neighbours.Statement.{statement}
+use Rattle.jolpibhar_nodes.proofs.node_neighbours.Tie as tie
 
 returns : tie.Need-returns
 returns c = rw (c .number .ensures) (rw (c .before .triple .ensures) (c .before .before .neighbours .ensures))
