@@ -16,12 +16,6 @@ Inv-loop records buffer₀ answers₀ count deep₀ i₀ buffer answers deep i =
 abbrev μ-loop : tie.MeasureT-loop
 μ-loop records buffer₀ answers₀ count deep₀ i₀ buffer answers deep i = count - i
 
-record-count-requires : tie.Need-record-count-requires Inv-loop μ-loop
-record-count-requires c κs = search needs
-
-least-requires : tie.Need-least-requires Inv-loop μ-loop
-least-requires c κs = search needs
-
 loop-holds : tie.Need-loop-holds Inv-loop μ-loop
 loop-holds c =
     turned-none _ _ _ _ (c .least .ensures ∙ ap (λ n. min n (length (c .before .before .before .before .before .args .answers .now))) (c .before .record-count .ensures))
@@ -32,20 +26,11 @@ record-at-requires c κs = omega (arith, c .before .loop .inv .all)
 step-requires : tie.Need-step-requires Inv-loop μ-loop
 step-requires c κs = runs-holds (c .before .before .before .loop .inv .runs)
 
-number-requires : tie.Need-number-requires Inv-loop μ-loop
-number-requires c κs = search needs
-
 cast-answers : tie.Need-cast-answers Inv-loop μ-loop
 cast-answers c = record { fits = subst (λ n. n < 256) (sym (c .number .ensures)) (answer-byte (c .before .before .before .step .result .answer)) }
 
 slice-write-answers : tie.Need-slice-write-answers Inv-loop μ-loop
 slice-write-answers c = turned-room (c .before .before .before .before .before .before .before .loop .inv) (c .before .before .before .before .before .before .loop-test .taken)
-
-add-i : tie.Need-add-i Inv-loop μ-loop
-add-i c = search needs
-
-loop-less : tie.Need-loop-less Inv-loop μ-loop
-loop-less c = search needs
 
 loop-again : tie.Need-loop-again Inv-loop μ-loop
 loop-again c =
@@ -54,12 +39,6 @@ loop-again c =
     turned-more (l .before .loop .inv) (l .loop-test .taken) (s .before .before .record-at .ensures) (c .number .ensures) (s .step .ensures)
     (λ i. c .before .slice-known3 .given i .fits)
     (s .step .kept .1 .0)
-
-same-length : tie.Need-same-length Inv-loop μ-loop
-same-length c = search needs
-
-same-length-2 : tie.Need-same-length-2 Inv-loop μ-loop
-same-length-2 c = search needs
 
 returns : tie.Need-returns Inv-loop μ-loop
 returns c = turned-end (c .before .loop .inv) (c .loop-test .left)
@@ -70,17 +49,17 @@ run-spec =
     (tie.spec
     Inv-loop
     μ-loop
-    record-count-requires
-    least-requires
+    (λ c κs. search needs)
+    (λ c κs. search needs)
     loop-holds
     record-at-requires
     step-requires
-    number-requires
+    (λ c κs. search needs)
     cast-answers
     slice-write-answers
-    add-i
-    loop-less
+    (λ c. search needs)
+    (λ c. search needs)
     loop-again
-    same-length
-    same-length-2
+    (λ c. search needs)
+    (λ c. search needs)
     returns)

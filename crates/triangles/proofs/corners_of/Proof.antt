@@ -13,41 +13,23 @@ Inv-loop k levels₀ t₀ levels t = CornersAt k levels t
 abbrev μ-loop : tie.MeasureT-loop
 μ-loop k levels₀ t₀ levels t = levels
 
-depth-requires : tie.Need-depth-requires Inv-loop μ-loop
-depth-requires c κs = search needs
-
 sub-levels : tie.Need-sub-levels Inv-loop μ-loop
 sub-levels c = omega (arith, depth-pos (c .before .args .n .0) (omega arith))
 
 shr-t7 : tie.Need-shr-t7 Inv-loop μ-loop
 shr-t7 c = start-above (c .before .args .n .0) (c .depth .result) (omega arith) (omega arith) (c .depth .ensures) .fits
 
-first-corners-requires : tie.Need-first-corners-requires Inv-loop μ-loop
-first-corners-requires c κs = search needs
-
 loop-holds : tie.Need-loop-holds Inv-loop μ-loop
 loop-holds c = corners-start (c .before .before .args .n .0) (c .before .depth .result) _ (omega arith) (omega arith) (c .before .depth .ensures) (c .first-corners .ensures)
 
-sub-levels-2 : tie.Need-sub-levels-2 Inv-loop μ-loop
-sub-levels-2 c = search needs
-
-shr-if1 : tie.Need-shr-if1 Inv-loop μ-loop
-shr-if1 c = search needs
-
 left-corners-requires : tie.Need-left-corners-requires Inv-loop μ-loop
 left-corners-requires c κs = corners-fit (c .before .before .loop .inv)
-
-loop-less : tie.Need-loop-less Inv-loop μ-loop
-loop-less c = search needs
 
 loop-again : tie.Need-loop-again Inv-loop μ-loop
 loop-again c = corners-left (c .before .before .loop-test .taken) (c .before .before .before .loop .inv) (c .left-corners .ensures) (c .before .if1 .taken)
 
 right-corners-requires : tie.Need-right-corners-requires Inv-loop μ-loop
 right-corners-requires c κs = corners-fit (c .before .before .loop .inv)
-
-loop-less-2 : tie.Need-loop-less-2 Inv-loop μ-loop
-loop-less-2 c = search needs
 
 loop-again-2 : tie.Need-loop-again-2 Inv-loop μ-loop
 loop-again-2 c = corners-right (c .before .before .loop-test .taken) (c .before .before .before .loop .inv) (c .right-corners .ensures) (c .before .if1 .left)
@@ -61,17 +43,17 @@ corners-of-spec =
     (tie.spec
     Inv-loop
     μ-loop
-    depth-requires
+    (λ c κs. search needs)
     sub-levels
     shr-t7
-    first-corners-requires
+    (λ c κs. search needs)
     loop-holds
-    sub-levels-2
-    shr-if1
+    (λ c. search needs)
+    (λ c. search needs)
     left-corners-requires
-    loop-less
+    (λ c. search needs)
     loop-again
     right-corners-requires
-    loop-less-2
+    (λ c. search needs)
     loop-again-2
     returns)

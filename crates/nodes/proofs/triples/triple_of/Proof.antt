@@ -13,9 +13,6 @@ Inv-loop k levels₀ t₀ levels t = TripleAt k levels t
 abbrev μ-loop : tie.MeasureT-loop
 μ-loop k levels₀ t₀ levels t = levels
 
-depth-requires : tie.Need-depth-requires Inv-loop μ-loop
-depth-requires c κs = search needs
-
 sub-levels : tie.Need-sub-levels Inv-loop μ-loop
 sub-levels c = omega (arith, depth-pos (c .before .args .n .0) (omega arith))
 
@@ -28,22 +25,10 @@ sub-t7 c = omega (arith, start-low (c .before .args .n .0) (c .depth .result) (o
 loop-holds : tie.Need-loop-holds Inv-loop μ-loop
 loop-holds c = triple-start (c .before .args .n .0) (c .depth .result) _ (omega arith) (omega arith) (c .depth .ensures) refl
 
-shr-if1 : tie.Need-shr-if1 Inv-loop μ-loop
-shr-if1 c = search needs
-
-sub-levels-2 : tie.Need-sub-levels-2 Inv-loop μ-loop
-sub-levels-2 c = search needs
-
-shr-if1-2 : tie.Need-shr-if1-2 Inv-loop μ-loop
-shr-if1-2 c = search needs
-
 left-child-requires : tie.Need-left-child-requires Inv-loop μ-loop
 left-child-requires c κs =
     let f = triple-fits (c .before .loop-test .taken) (c .before .before .loop .inv) (c .before .before .before .before .pre .1) in
     (f .0, f .2, f .3)
-
-loop-less : tie.Need-loop-less Inv-loop μ-loop
-loop-less c = search needs
 
 loop-again : tie.Need-loop-again Inv-loop μ-loop
 loop-again c = triple-left (c .before .before .loop-test .taken) (c .before .before .before .loop .inv) (c .left-child .ensures) (c .before .if1 .taken)
@@ -52,9 +37,6 @@ right-child-requires : tie.Need-right-child-requires Inv-loop μ-loop
 right-child-requires c κs =
     let f = triple-fits (c .before .loop-test .taken) (c .before .before .loop .inv) (c .before .before .before .before .pre .1) in
     (f .0, f .1, f .3)
-
-loop-less-2 : tie.Need-loop-less-2 Inv-loop μ-loop
-loop-less-2 c = search needs
 
 loop-again-2 : tie.Need-loop-again-2 Inv-loop μ-loop
 loop-again-2 c = triple-right (c .before .before .loop-test .taken) (c .before .before .before .loop .inv) (c .right-child .ensures) (c .before .if1 .left)
@@ -68,18 +50,18 @@ triple-of-spec =
     (tie.spec
     Inv-loop
     μ-loop
-    depth-requires
+    (λ c κs. search needs)
     sub-levels
     shr-t6
     sub-t7
     loop-holds
-    shr-if1
-    sub-levels-2
-    shr-if1-2
+    (λ c. search needs)
+    (λ c. search needs)
+    (λ c. search needs)
     left-child-requires
-    loop-less
+    (λ c. search needs)
     loop-again
     right-child-requires
-    loop-less-2
+    (λ c. search needs)
     loop-again-2
     returns)
