@@ -17,12 +17,6 @@ Inv-loop bytes deep end j₀ j = Blocks deep (length bytes) end × ((i : ℕ) �
 abbrev μ-loop : tie.MeasureT-loop
 μ-loop bytes deep end j₀ j = end - j
 
-sub-end : tie.Need-sub-end Inv-loop μ-loop
-sub-end c = omega arith
-
-shl-end : tie.Need-shl-end Inv-loop μ-loop
-shl-end c = omega arith
-
 loop-holds : tie.Need-loop-holds Inv-loop μ-loop
 loop-holds c = (blocks (c .before .pre .0) (omega arith), λ i h. absurd (omega arith))
 
@@ -31,9 +25,6 @@ block-follows-requires c κs = (c .before .before .before .pre .0, omega arith, 
 
 add-j : tie.Need-add-j Inv-loop μ-loop
 add-j c = omega (arith)
-
-loop-less : tie.Need-loop-less Inv-loop μ-loop
-loop-less c = omega arith
 
 loop-again : tie.Need-loop-again Inv-loop μ-loop
 loop-again c =
@@ -53,4 +44,4 @@ returns-2 c =
 pub blocks-follow-spec : {M : Type 1} → statement M
 blocks-follow-spec =
     tie.close
-    (tie.spec Inv-loop μ-loop sub-end shl-end loop-holds block-follows-requires add-j loop-less loop-again returns returns-2)
+    (tie.spec Inv-loop μ-loop (λ c. omega arith) (λ c. omega arith) loop-holds block-follows-requires add-j (λ c. omega arith) loop-again returns returns-2)

@@ -9,12 +9,6 @@ use borrow.Author.Needs.{needs}
 use Rattle.fields.proofs.get_field.Statement.{statement}
 use Rattle.fields.proofs.get_field.Tie as tie
 
-mul-result : tie.Need-mul-result
-mul-result c = omega arith
-
-sub-result : tie.Need-sub-result
-sub-result c = omega arith
-
 cast-result : tie.Need-cast-result
 cast-result c = omega (arith, c .before .place .ensures .high (c .before .before .before .args .w) (omega arith) (omega arith))
 
@@ -37,8 +31,8 @@ get-field-spec =
     (tie.spec
     (λ c κs. search needs)
     (λ c κs. search needs)
-    mul-result
-    sub-result
+    (λ c. omega arith)
+    (λ c. omega arith)
     cast-result
     shr-result
     (λ c. search needs)

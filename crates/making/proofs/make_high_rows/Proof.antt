@@ -18,14 +18,8 @@ abbrev μ-loop : tie.MeasureT-loop
 loop-holds : tie.Need-loop-holds Inv-loop μ-loop
 loop-holds c = let a = c .before .args in (omega arith, made-none (a .deep) (2 ^ a .end) (2 ^ a .end) (a .bytes .now) refl)
 
-sub-d : tie.Need-sub-d Inv-loop μ-loop
-sub-d c = omega arith
-
 make-row-requires : tie.Need-make-row-requires Inv-loop μ-loop
 make-row-requires c κs = (room-same (c .before .before .loop .inv .1 .long) (c .before .before .before .before .pre .0), omega arith)
-
-loop-less : tie.Need-loop-less Inv-loop μ-loop
-loop-less c = omega arith
 
 loop-again : tie.Need-loop-again Inv-loop μ-loop
 loop-again c =
@@ -54,9 +48,9 @@ make-high-rows-spec =
     Inv-loop
     μ-loop
     loop-holds
-    sub-d
+    (λ c. omega arith)
     make-row-requires
-    loop-less
+    (λ c. omega arith)
     loop-again
     same-length
     returns)

@@ -16,23 +16,8 @@ Inv-loop bytes₀ deep m i₀ bytes i = Quarter deep (length bytes₀) m × Bloc
 abbrev μ-loop : tie.MeasureT-loop
 μ-loop bytes₀ deep m i₀ bytes i = m - i
 
-sub-m : tie.Need-sub-m Inv-loop μ-loop
-sub-m c = omega arith
-
-shl-m : tie.Need-shl-m Inv-loop μ-loop
-shl-m c = omega arith
-
 loop-holds : tie.Need-loop-holds Inv-loop μ-loop
 loop-holds c = (quarter (c .before .pre), blocks-none (c .before .args .bytes .now))
-
-make-seven-requires : tie.Need-make-seven-requires Inv-loop μ-loop
-make-seven-requires c κs = omega arith
-
-add-i : tie.Need-add-i Inv-loop μ-loop
-add-i c = omega arith
-
-loop-less : tie.Need-loop-less Inv-loop μ-loop
-loop-less c = omega arith
 
 loop-again : tie.Need-loop-again Inv-loop μ-loop
 loop-again c =
@@ -51,4 +36,4 @@ returns c =
 pub make-lowest-three-spec : {M : Type 1} → statement M
 make-lowest-three-spec =
     tie.close
-    (tie.spec Inv-loop μ-loop sub-m shl-m loop-holds make-seven-requires add-i loop-less loop-again same-length returns)
+    (tie.spec Inv-loop μ-loop (λ c. omega arith) (λ c. omega arith) loop-holds (λ c κs. omega arith) (λ c. omega arith) (λ c. omega arith) loop-again same-length returns)

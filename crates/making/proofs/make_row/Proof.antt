@@ -29,24 +29,6 @@ known c =
     let l = c .before .loop in
     here (s .pre .1) (l .inv .1) (omega arith) (room-same (l .inv .2 .long) (s .pre .0))
 
-sub-w : tie.Need-sub-w Inv-loop μ-loop
-sub-w c = omega arith
-
-shl-end : tie.Need-shl-end Inv-loop μ-loop
-shl-end c = omega arith
-
-shl-k : tie.Need-shl-k Inv-loop μ-loop
-shl-k c = omega arith
-
-row-start-requires : tie.Need-row-start-requires Inv-loop μ-loop
-row-start-requires c κs = omega arith
-
-add-row-start : tie.Need-add-row-start Inv-loop μ-loop
-add-row-start c = omega arith
-
-row-start-requires-2 : tie.Need-row-start-requires-2 Inv-loop μ-loop
-row-start-requires-2 c κs = omega arith
-
 loop-holds : tie.Need-loop-holds Inv-loop μ-loop
 loop-holds c =
     let s = c .before .before .before in
@@ -64,9 +46,6 @@ add-get-field c = omega (arith, known (c .before .before .before))
 get-field-requires-2 : tie.Need-get-field-requires-2 Inv-loop μ-loop
 get-field-requires-2 c κs = omega (arith, known (c .before .before .before))
 
-add-put-field : tie.Need-add-put-field Inv-loop μ-loop
-add-put-field c = omega arith
-
 add-put-field-2 : tie.Need-add-put-field-2 Inv-loop μ-loop
 add-put-field-2 c = omega (arith, known (c .before .before .before .before .before))
 
@@ -76,20 +55,11 @@ put-field-requires c κs = omega (arith, known (c .before .before .before .befor
 add-k : tie.Need-add-k Inv-loop μ-loop
 add-k c = omega (arith, known (c .before .before .before .before .before .before .before .before))
 
-add-p : tie.Need-add-p Inv-loop μ-loop
-add-p c = omega arith
-
 add-p-2 : tie.Need-add-p-2 Inv-loop μ-loop
 add-p-2 c = omega (arith, known (c .before .before .before .before .before .before .before .before))
 
-mul-c : tie.Need-mul-c Inv-loop μ-loop
-mul-c c = omega arith
-
 add-c : tie.Need-add-c Inv-loop μ-loop
 add-c c = omega (arith, known (c .before .before .before .before .before .before .before .before))
-
-loop-less : tie.Need-loop-less Inv-loop μ-loop
-loop-less c = omega arith
 
 loop-again : tie.Need-loop-again Inv-loop μ-loop
 loop-again c =
@@ -124,25 +94,25 @@ make-row-spec =
     (tie.spec
     Inv-loop
     μ-loop
-    sub-w
-    shl-end
-    shl-k
-    row-start-requires
-    add-row-start
-    row-start-requires-2
+    (λ c. omega arith)
+    (λ c. omega arith)
+    (λ c. omega arith)
+    (λ c κs. omega arith)
+    (λ c. omega arith)
+    (λ c κs. omega arith)
     loop-holds
     get-field-requires
     add-get-field
     get-field-requires-2
-    add-put-field
+    (λ c. omega arith)
     add-put-field-2
     put-field-requires
     add-k
-    add-p
+    (λ c. omega arith)
     add-p-2
-    mul-c
+    (λ c. omega arith)
     add-c
-    loop-less
+    (λ c. omega arith)
     loop-again
     same-length
     returns)

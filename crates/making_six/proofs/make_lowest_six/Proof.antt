@@ -16,23 +16,8 @@ Inv-loop bytes₀ deep m j₀ bytes j = Blocks deep (length bytes₀) m × Block
 abbrev μ-loop : tie.MeasureT-loop
 μ-loop bytes₀ deep m j₀ bytes j = m - j
 
-sub-m : tie.Need-sub-m Inv-loop μ-loop
-sub-m c = omega arith
-
-shl-m : tie.Need-shl-m Inv-loop μ-loop
-shl-m c = omega arith
-
 loop-holds : tie.Need-loop-holds Inv-loop μ-loop
 loop-holds c = (blocks (c .before .pre .0) (c .before .pre .1), blocks-none (c .before .args .bytes .now))
-
-make-six-requires : tie.Need-make-six-requires Inv-loop μ-loop
-make-six-requires c κs = omega arith
-
-add-j : tie.Need-add-j Inv-loop μ-loop
-add-j c = omega arith
-
-loop-less : tie.Need-loop-less Inv-loop μ-loop
-loop-less c = omega arith
 
 loop-again : tie.Need-loop-again Inv-loop μ-loop
 loop-again c =
@@ -51,4 +36,4 @@ returns c =
 pub make-lowest-six-spec : {M : Type 1} → statement M
 make-lowest-six-spec =
     tie.close
-    (tie.spec Inv-loop μ-loop sub-m shl-m loop-holds make-six-requires add-j loop-less loop-again same-length returns)
+    (tie.spec Inv-loop μ-loop (λ c. omega arith) (λ c. omega arith) loop-holds (λ c κs. omega arith) (λ c. omega arith) (λ c. omega arith) loop-again same-length returns)

@@ -20,12 +20,6 @@ loop-holds c = (omega arith, λ k lo hi. absurd (omega arith))
 row-requires : tie.Need-row-requires Inv-loop μ-loop
 row-requires c κs = (c .before .before .before .pre .0, omega arith)
 
-add-d : tie.Need-add-d Inv-loop μ-loop
-add-d c = omega arith
-
-loop-less : tie.Need-loop-less Inv-loop μ-loop
-loop-less c = omega arith
-
 loop-again : tie.Need-loop-again Inv-loop μ-loop
 loop-again c =
     let l = c .before .before .before .loop in
@@ -47,4 +41,4 @@ returns-2 c =
 pub high-rows-spec : {M : Type 1} → statement M
 high-rows-spec =
     tie.close
-    (tie.spec Inv-loop μ-loop loop-holds row-requires add-d loop-less loop-again returns returns-2)
+    (tie.spec Inv-loop μ-loop loop-holds row-requires (λ c. omega arith) (λ c. omega arith) loop-again returns returns-2)

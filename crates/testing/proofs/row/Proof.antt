@@ -36,24 +36,6 @@ read c =
     let k = known (c .before .before .before) in
     (c .get-field3 .ensures ∙ k .own-word, ap₂ (λ (x y : ℕ). x + y) (c .before .before .get-field .ensures ∙ k .left-word) (c .before .get-field2 .ensures ∙ k .right-word))
 
-sub-w : tie.Need-sub-w Inv-loop μ-loop
-sub-w c = omega arith
-
-shl-end : tie.Need-shl-end Inv-loop μ-loop
-shl-end c = omega arith
-
-shl-k : tie.Need-shl-k Inv-loop μ-loop
-shl-k c = omega arith
-
-row-start-requires : tie.Need-row-start-requires Inv-loop μ-loop
-row-start-requires c κs = omega arith
-
-add-row-start : tie.Need-add-row-start Inv-loop μ-loop
-add-row-start c = omega arith
-
-row-start-requires-2 : tie.Need-row-start-requires-2 Inv-loop μ-loop
-row-start-requires-2 c κs = omega arith
-
 loop-holds : tie.Need-loop-holds Inv-loop μ-loop
 loop-holds c =
     let s = c .before .before .before in
@@ -71,9 +53,6 @@ add-get-field c = omega (arith, known (c .before))
 get-field-requires-2 : tie.Need-get-field-requires-2 Inv-loop μ-loop
 get-field-requires-2 c κs = omega (arith, known (c .before))
 
-add-get-field-2 : tie.Need-add-get-field-2 Inv-loop μ-loop
-add-get-field-2 c = omega arith
-
 get-field-requires-3 : tie.Need-get-field-requires-3 Inv-loop μ-loop
 get-field-requires-3 c κs = omega (arith, known (c .before .before))
 
@@ -90,20 +69,11 @@ returns c =
 add-k : tie.Need-add-k Inv-loop μ-loop
 add-k c = omega (arith, known (c .before .before .before .before))
 
-add-p : tie.Need-add-p Inv-loop μ-loop
-add-p c = omega arith
-
 add-p-2 : tie.Need-add-p-2 Inv-loop μ-loop
 add-p-2 c = omega (arith, known (c .before .before .before .before))
 
-mul-c : tie.Need-mul-c Inv-loop μ-loop
-mul-c c = omega arith
-
 add-c : tie.Need-add-c Inv-loop μ-loop
 add-c c = omega (arith, known (c .before .before .before .before))
-
-loop-less : tie.Need-loop-less Inv-loop μ-loop
-loop-less c = omega arith
 
 loop-again : tie.Need-loop-again Inv-loop μ-loop
 loop-again c =
@@ -125,25 +95,25 @@ row-spec =
     (tie.spec
     Inv-loop
     μ-loop
-    sub-w
-    shl-end
-    shl-k
-    row-start-requires
-    add-row-start
-    row-start-requires-2
+    (λ c. omega arith)
+    (λ c. omega arith)
+    (λ c. omega arith)
+    (λ c κs. omega arith)
+    (λ c. omega arith)
+    (λ c κs. omega arith)
     loop-holds
     get-field-requires
     add-get-field
     get-field-requires-2
-    add-get-field-2
+    (λ c. omega arith)
     get-field-requires-3
     add-if1
     returns
     add-k
-    add-p
+    (λ c. omega arith)
     add-p-2
-    mul-c
+    (λ c. omega arith)
     add-c
-    loop-less
+    (λ c. omega arith)
     loop-again
     returns-2)

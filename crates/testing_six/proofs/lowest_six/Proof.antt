@@ -17,23 +17,8 @@ Inv-loop bytes deep m j₀ j = Blocks deep (length bytes) m × ((k : ℕ) → k 
 abbrev μ-loop : tie.MeasureT-loop
 μ-loop bytes deep m j₀ j = m - j
 
-sub-m : tie.Need-sub-m Inv-loop μ-loop
-sub-m c = omega arith
-
-shl-m : tie.Need-shl-m Inv-loop μ-loop
-shl-m c = omega arith
-
 loop-holds : tie.Need-loop-holds Inv-loop μ-loop
 loop-holds c = (blocks (c .before .pre .0) (c .before .pre .1), below-none _)
-
-six-right-requires : tie.Need-six-right-requires Inv-loop μ-loop
-six-right-requires c κs = omega arith
-
-add-j : tie.Need-add-j Inv-loop μ-loop
-add-j c = omega arith
-
-loop-less : tie.Need-loop-less Inv-loop μ-loop
-loop-less c = omega arith
 
 loop-again : tie.Need-loop-again Inv-loop μ-loop
 loop-again c =
@@ -55,4 +40,4 @@ returns-2 c =
 pub lowest-six-spec : {M : Type 1} → statement M
 lowest-six-spec =
     tie.close
-    (tie.spec Inv-loop μ-loop sub-m shl-m loop-holds six-right-requires add-j loop-less loop-again returns returns-2)
+    (tie.spec Inv-loop μ-loop (λ c. omega arith) (λ c. omega arith) loop-holds (λ c κs. omega arith) (λ c. omega arith) (λ c. omega arith) loop-again returns returns-2)

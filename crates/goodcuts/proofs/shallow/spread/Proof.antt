@@ -15,9 +15,6 @@ here : (c : tie.In-loop Inv-loop μ-loop)
     → let b = c .before in Turn (b .before .args .deep) (b .before .args .x) (b .loop .w / 2) (b .loop .lane / 2) (b .loop .ones) (b .loop .y)
 here c = turn (c .before .before .pre .0) (c .loop-test .taken) (c .before .loop .inv)
 
-shl-w : tie.Need-shl-w Inv-loop μ-loop
-shl-w c = omega arith
-
 loop-holds : tie.Need-loop-holds Inv-loop μ-loop
 loop-holds c = spread-first (c .pre .0) (c .pre .1)
 
@@ -45,9 +42,6 @@ shl-ones c = omega (arith, here c)
 add-ones : tie.Need-add-ones Inv-loop μ-loop
 add-ones c = omega (arith, here c)
 
-loop-less : tie.Need-loop-less Inv-loop μ-loop
-loop-less c = omega arith
-
 loop-again : tie.Need-loop-again Inv-loop μ-loop
 loop-again c = here c .next
 
@@ -60,7 +54,7 @@ spread-spec =
     (tie.spec
     Inv-loop
     μ-loop
-    shl-w
+    (λ c. omega arith)
     loop-holds
     shl-mask
     sub-mask
@@ -70,6 +64,6 @@ spread-spec =
     add-y
     shl-ones
     add-ones
-    loop-less
+    (λ c. omega arith)
     loop-again
     returns)

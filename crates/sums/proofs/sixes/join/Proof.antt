@@ -7,12 +7,6 @@ use Rattle.bits.proofs.Abreast.{join-small, join-exact, join-words}
 use Rattle.sums.proofs.sixes.join.Statement.{statement}
 use Rattle.sums.proofs.sixes.join.Tie as tie
 
-shr-result : tie.Need-shr-result
-shr-result c = omega arith
-
-shl-result : tie.Need-shl-result
-shl-result c = omega arith
-
 add-result : tie.Need-add-result
 add-result c =
     let a = c .args in
@@ -24,4 +18,4 @@ returns c =
     join-words (a .w) (a .shift) (a .x) (a .mask) (c .pre .0) (c .pre .1) (ap (λ (y : ℕ). bitAnd (a .x) (a .mask) + y) (join-exact (a .w) (a .shift) (a .x) (a .mask) (c .pre .0) (c .pre .1)))
 
 pub join-spec : {M : Type 1} → statement M
-join-spec = tie.close (tie.spec shr-result shl-result add-result returns)
+join-spec = tie.close (tie.spec (λ c. omega arith) (λ c. omega arith) add-result returns)
