@@ -9,7 +9,7 @@ ghost use Rattle.tables.specs.inner.Says.{Says};
 pub const LEAST_DEPTH: usize = 3;
 
 // The greatest depth that a panel may have.
-pub const GREATEST_DEPTH: usize = 14;
+pub const GREATEST_DEPTH: usize = 17;
 
 // The last node of the greatest depth.
 pub const GREATEST_NODE: u32 = (2 << GREATEST_DEPTH) - 1;
