@@ -1,10 +1,13 @@
 -- A record is eight bytes of the input, or the tail that is left.
-use mathlib.Core.Path.{_≡_, sym, ap, _∙_}
+use mathlib.Core.Path.{_≡_, refl, sym, ap, _∙_}
+use mathlib.Core.Bool.{Bool, true, false}
+use mathlib.Core.Logic.{_≢_}
 use mathlib.Core.List.{List}
-use Prim.Native.Nat.{ℕ, _+_, _-_, min}
+use Prim.Native.Nat.{ℕ, _+_, _-_, _*_, _/_, _%_, _<_, min}
 use native.Mathlib.Omega.{arith, min-cases}
 use lib.ListN.{length, take, drop, length-drop}
 use lib.Seq.{take-all, take-length}
+use Rattle.records.specs.Records.{recordsIn}
 
 pub take-min : (n : ℕ) (l : List ℕ) → take (min n (length l)) l ≡ take n l
 take-min n l =
@@ -16,3 +19,19 @@ pub record-part : (rs : List ℕ) (start end : ℕ) → end ≡ min (start + 8) 
 record-part rs start end e =
     let l : end - start ≡ min 8 (length (drop start rs)) = omega (arith, length-drop start rs) in
     ap (λ k. take k (drop start rs)) l ∙ take-min 8 (drop start rs)
+
+-- a part of whole records; a tail that the input ends with, and one that it goes on after
+pub in-whole : (ends : Bool) (p : List ℕ) → length p % 8 ≡ 0 → length p / 8 ≡ recordsIn ends p
+in-whole true p h = omega arith
+in-whole false p h = refl
+
+pub in-tail : (ends : Bool) (p : List ℕ) → length p % 8 ≢ 0 → ends ≡ true → length p / 8 + 1 ≡ recordsIn ends p
+in-tail ends p h e = rw e (omega arith)
+
+pub in-middle : (ends : Bool) (p : List ℕ) → ends ≡ false → length p / 8 ≡ recordsIn ends p
+in-middle ends p e = rw e refl
+
+-- each record of a part has a byte of it
+pub in-bytes : (ends : Bool) (p : List ℕ) (i : ℕ) → i < recordsIn ends p → 8 * i < length p
+in-bytes true p i h = omega arith
+in-bytes false p i h = omega arith

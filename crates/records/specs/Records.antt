@@ -1,5 +1,6 @@
 -- Request records of eight bytes, by "The request file".
 use mathlib.Core.Path.{_≡_}
+use mathlib.Core.Bool.{Bool, true, false}
 use mathlib.Core.List.{List}
 use Prim.Native.Nat.{ℕ, _+_, _*_, _/_, _≤_, min}
 use lib.ListN.{length, getD, take, drop}
@@ -29,6 +30,11 @@ recordAt rs i = take 8 (drop (8 * i) rs)
 abbrev pub mostRecords : ℕ
 mostRecords = 4096
 
--- a tail of 1 to 7 bytes within that limit is one more record; later bytes are ignored
-abbrev pub recordCount : List ℕ → ℕ
-recordCount rs = min mostRecords ((length rs + 7) / 8)
+-- how many records a part of the input holds: a tail of 1 to 7 bytes is one more, only where the input ends with the part
+abbrev pub recordsIn : Bool → List ℕ → ℕ
+recordsIn true p = (length p + 7) / 8
+recordsIn false p = length p / 8
+
+-- how many are answered after a part, n of them before it: the limit is over all parts together, and later bytes are ignored
+abbrev pub countAfter : ℕ → Bool → List ℕ → ℕ
+countAfter n ends p = min mostRecords (n + recordsIn ends p)

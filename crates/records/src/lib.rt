@@ -1,11 +1,11 @@
 // Request records: eight bytes each.
 ghost use mathlib.Core.Path.{_≡_};
-ghost use Prim.Native.Nat.{_<_, min};
+ghost use Prim.Native.Nat.{_*_, _^_, _≤_, _<_, min};
 ghost use lib.ListN.{length};
 ghost use Rattle.tables.specs.inner.Says.{Says};
-ghost use Rattle.records.specs.Records.{number, Fine, recordAt, recordCount};
+ghost use Rattle.records.specs.Records.{number, Fine, recordAt, mostRecords, recordsIn, countAfter};
 
-// The most records that a run works through.
+// The most records that a run works through, over all parts of its input.
 pub const MOST_RECORDS: usize = 4096;
 
 // Whether the record is whole, of a known kind, and its spare bytes are zero.
@@ -48,23 +48,31 @@ pub fn least(a: usize, b: usize) -> usize
     b
 }
 
-// How many records there are: a tail is one more.
-pub fn record_count(records: &[u8]) -> usize
-    ensures { λ r. ⌜ r ≡ recordCount (now (records .entry)) ⌝ }
+// How many records a part holds: a tail is one more where the input ends with the part.
+fn records_in(part: &[u8], ends: bool) -> usize
+    ensures { λ r. ⌜ (r ≡ recordsIn ends (now (part .entry))) × (r < 2 ^ 62) ⌝ }
 {
-    let whole = records.len() / 8;
-    if MOST_RECORDS <= whole {
-        return MOST_RECORDS;
-    }
-    if records.len() % 8 == 0 {
+    let whole = part.len() / 8;
+    if part.len() % 8 == 0 {
         return whole;
     }
-    whole + 1
+    if ends {
+        return whole + 1;
+    }
+    whole
+}
+
+// How many records are answered after a part, n of them before it.
+pub fn count_after(n: usize, part: &[u8], ends: bool) -> usize
+    requires { ⌜ n ≤ mostRecords ⌝ }
+    ensures { λ r. ⌜ r ≡ countAfter n ends (now (part .entry)) ⌝ }
+{
+    least(MOST_RECORDS, n + records_in(part, ends))
 }
 
 // Record i: a tail is shorter than eight bytes.
 pub fn record_at(records: &[u8], i: usize) -> &[u8]
-    requires { ⌜ i < recordCount (now records) ⌝ }
+    requires { ⌜ 8 * i < length (now records) ⌝ }
     ensures { λ r. ⌜ now r ≡ recordAt (now (records .entry)) i ⌝ }
 {
     let start = 8 * i;

@@ -10,18 +10,21 @@ use Rattle.records.specs.Records.{kind, recordAt, Fine}
 use Rattle.steps.specs.Steps.{Step}
 use Rattle.steps.specs.Holding.{Holds}
 use Rattle.steps.proofs.Keeping.{step-refused, holds-none, step-holds, step-none, step-first}
-use Rattle.requests.specs.Requests.{Runs, Run}
+use Rattle.requests.specs.Requests.{Runs, Run, Ended}
 use Rattle.requests.specs.Requests.Runs.{none, more}
 
 -- ---- the open panel stays good
 
-pub runs-holds : {rs b given u : List ℕ} {D : ℕ} → Runs rs b given D u → Holds D u
-runs-holds {b = b} none = holds-none b
-runs-holds (more r s y) = step-holds (runs-holds r) s
+pub runs-holds : {rs b given u : List ℕ} {C D : ℕ} → Holds C b → Runs rs C b given D u → Holds D u
+runs-holds h none = h
+runs-holds h (more r s y) = step-holds (runs-holds h r) s
 
 -- what a run leaves open is good
 pub run-holds : {rs b out u after : List ℕ} {count D : ℕ} → Run rs b out count D u after → Holds D u
-run-holds r = runs-holds (r .runs)
+run-holds {b = b} r = runs-holds (holds-none b) (r .runs)
+
+pub ended-holds : {given t : List ℕ} {D : ℕ} → Ended given D t → Holds D t
+ended-holds e = runs-holds (holds-none (e .before)) (e .runs)
 
 -- ---- before the first accepted open
 
@@ -30,7 +33,7 @@ abbrev pub NoneOpened : List ℕ → List ℕ → Type 0
 NoneOpened rs given = (i : ℕ) → i < length given → Fine (recordAt rs i) → kind (recordAt rs i) ≡ 0 → getD given i 0 ≢ 0
 
 -- then no panel is open, and every byte is as before
-pub none-opened : {rs b given u : List ℕ} {D : ℕ} → Runs rs b given D u → NoneOpened rs given → (D ≡ 0) × (u ≡ b)
+pub none-opened : {rs b given u : List ℕ} {D : ℕ} → Runs rs 0 b given D u → NoneOpened rs given → (D ≡ 0) × (u ≡ b)
 none-opened none h = (refl, refl)
 none-opened {rs} (more {given = g} {t = t} {u = u} {E = E} {n = n} r s y) h =
     let l = length-append g (n ∷ []) in
@@ -41,7 +44,7 @@ none-opened {rs} (more {given = g} {t = t} {u = u} {E = E} {n = n} r s y) h =
 
 -- and split and merge answer 1
 pub before-first-open :
-    {rs b given u v : List ℕ} {D n E : ℕ} → Runs rs b given D u → NoneOpened rs given
+    {rs b given u v : List ℕ} {D n E : ℕ} → Runs rs 0 b given D u → NoneOpened rs given
     → Step (recordAt rs (length given)) D u n E v → Fine (recordAt rs (length given)) → kind (recordAt rs (length given)) ≢ 0
     → n ≡ 1
 before-first-open r h s = step-first (none-opened r h .0) s

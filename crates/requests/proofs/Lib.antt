@@ -1,3 +1,4 @@
 pub mod Keeping
 pub mod Once
+pub mod Parts
 pub mod Turns

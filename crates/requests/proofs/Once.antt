@@ -1,18 +1,19 @@
--- One input has one outcome: of records in turn, and of the whole call. Each record's is that of its step.
+-- One input has one outcome: of records in turn, of a part and of the whole. Each record's is that of its step.
 use mathlib.Core.Path.{_≡_, refl, sym, ap, ap₂, _∙_, subst, subst₂}
+use mathlib.Core.Bool.{Bool}
 use mathlib.Core.List.{List, [], _∷_, _++_}
-use Prim.Native.Nat.{ℕ, _≤_}
+use Prim.Native.Nat.{ℕ, _-_, _≤_}
 use native.Mathlib.Omega.{arith}
-use lib.ListN.{length, drop, length-append, take-append-drop}
-use lib.Seq.{length-take-le}
+use lib.ListN.{length, take, drop, length-append, take-append-drop}
+use lib.Seq.{slice, length-slice, take-take}
 use Rattle.records.specs.Records.{recordAt}
 use Rattle.steps.specs.Steps.{Step}
 use Rattle.steps.proofs.Once.{step-one}
-use Rattle.requests.specs.Requests.{Runs, Run}
+use Rattle.requests.specs.Requests.{Runs, Part, Run}
 use Rattle.requests.specs.Requests.Runs.{none, more}
 
 pub runs-one :
-    {rs b xs ys u v : List ℕ} {D E : ℕ} → Runs rs b xs D u → Runs rs b ys E v → length xs ≡ length ys → (xs ≡ ys) × (D ≡ E) × (u ≡ v)
+    {rs b xs ys u v : List ℕ} {C D E : ℕ} → Runs rs C b xs D u → Runs rs C b ys E v → length xs ≡ length ys → (xs ≡ ys) × (D ≡ E) × (u ≡ v)
 runs-one none none e = (refl, refl, refl)
 runs-one none (more {given = g} {n = n} q s y) e = absurd (omega (arith, length-append g (n ∷ [])))
 runs-one (more {given = g} {n = n} p s x) none e = absurd (omega (arith, length-append g (n ∷ [])))
@@ -24,14 +25,28 @@ runs-one {rs} (more {given = g} {t = t} {u = u} {E = E} {n = n} p s x) (more {gi
     let o = step-one x y s₂ r in
     (ap₂ (λ w k. w ++ (k ∷ [])) (i .0) (o .0), o .1, o .2)
 
--- two outcomes of one run are equal: how many are answered, the depth of the open panel, the buffer and the answers
+-- a list is its first bytes, those from there on up to another place, and the rest
+in-three : (before count : ℕ) (l : List ℕ) → before ≤ count → l ≡ (take before l ++ slice before count l) ++ drop count l
+in-three before count l h =
+    sym (take-append-drop count l)
+    ∙ ap (λ w. w ++ drop count l) (sym (take-append-drop before (take count l)) ∙ ap (λ w. w ++ slice before count l) (take-take before count l h))
+
+-- two outcomes of one part are equal: how many are answered, the depth of the open panel, the buffer and the answers
+pub part-one :
+    {p b out u v x y : List ℕ} {ends : Bool} {before C n m D E : ℕ} → before ≤ n → Part p ends before C b out n D u x → Part p ends before C b out m E v y
+    → (n ≡ m) × (D ≡ E) × (u ≡ v) × (x ≡ y)
+part-one {out = out} {x = x} {y = y} {before = before} {n = n} {m = m} h p q =
+    let c : n ≡ m = p .all ∙ sym (q .all) in
+    let k : before ≤ m = subst (λ z. before ≤ z) c h in
+    let a = length-slice before n x (omega (arith, p .all, p .long)) in
+    let d = length-slice before m y (omega (arith, q .all, q .long)) in
+    let e = runs-one (p .runs) (q .runs) (a ∙ ap (λ z. z - before) c ∙ sym d) in
+    let f : take before x ≡ take before y = p .front ∙ sym (q .front) in
+    let r : drop n x ≡ drop m y = p .rest ∙ ap (λ z. drop z out) c ∙ sym (q .rest) in
+    (c, e .1, e .2, in-three before n x h ∙ ap₂ (λ w z. w ++ z) (ap₂ (λ w z. w ++ z) f (e .0)) r ∙ sym (in-three before m y k))
+
+-- and of the whole
 pub run-one :
     {rs b out u v x y : List ℕ} {n m D E : ℕ} → Run rs b out n D u x → Run rs b out m E v y
     → (n ≡ m) × (D ≡ E) × (u ≡ v) × (x ≡ y)
-run-one {rs} {out = out} {x = x} {y = y} {n = n} {m = m} p q =
-    let c : n ≡ m = p .all ∙ sym (q .all) in
-    let a : n ≤ length x = omega (arith, p .all, p .long) in
-    let b : m ≤ length y = omega (arith, q .all, q .long) in
-    let e = runs-one (p .runs) (q .runs) (length-take-le n x a ∙ c ∙ sym (length-take-le m y b)) in
-    let r : drop n x ≡ drop m y = p .rest ∙ ap (λ k. drop k out) c ∙ sym (q .rest) in
-    (c, e .1, e .2, sym (take-append-drop n x) ∙ ap₂ (λ w z. w ++ z) (e .0) r ∙ take-append-drop m y)
+run-one = part-one (omega arith)

@@ -1,26 +1,33 @@
 // Runs of request records on a lent buffer.
+use records::count_after;
 use records::least;
 use records::record_at;
-use records::record_count;
 use steps::step;
-ghost use Rattle.requests.specs.Requests.{Run};
+ghost use Prim.Native.Nat.{_≤_, min};
+ghost use lib.ListN.{length};
+ghost use Rattle.records.specs.Records.{mostRecords};
+ghost use Rattle.steps.specs.Holding.{Holds};
+ghost use Rattle.requests.specs.Requests.{Part};
 
-// What a run comes to: how many records it answered, and the depth of the panel that is open after them, or 0.
+// What a run has come to: how many records it has answered, and the depth of the panel that is open after them, or 0.
 pub struct Ran {
     pub count: usize,
     pub deep: usize,
 }
 
-// Works through the records in turn, on panels at the start of the buffer, and writes a byte for each answer. It answers as
-// many records as there are, or as many as the answers have room for. No panel is open before the first.
-pub fn run(records: &[u8], buffer: &mut [u8], answers: &mut [u8]) -> Ran
-    ensures { λ r. ⌜ Run (now (records .entry)) (now (buffer .entry)) (now (answers .entry)) (r .count) (r .deep) (now (buffer .exit)) (now (answers .exit)) ⌝ }
+// Goes on with a run: works through the records of a part of its input in turn, on panels at the start of the buffer, and writes a byte for
+// each answer behind those of the parts before. It answers as many records as there are up to the limit, or as many as the answers have
+// room for. `ends` says that the input ends with this part; before the first part a run has come to no records and no panel.
+pub fn run(part: &[u8], ends: bool, buffer: &mut [u8], answers: &mut [u8], before: Ran) -> Ran
+    requires { ⌜ Holds (before .deep) (now buffer) × (before .count ≤ min mostRecords (length (now answers))) ⌝ }
+    ensures { λ r. ⌜ Part (now (part .entry)) ends (before .count) (before .deep) (now (buffer .entry)) (now (answers .entry)) (r .count) (r .deep) (now (buffer .exit)) (now (answers .exit)) ⌝ }
 {
-    let count = least(record_count(records), answers.len());
-    let mut deep: usize = 0;
-    let mut i: usize = 0;
+    let first = before.count;
+    let count = least(count_after(first, part, ends), answers.len());
+    let mut deep = before.deep;
+    let mut i = first;
     while i < count {
-        let done = step(record_at(records, i), buffer, deep);
+        let done = step(record_at(part, i - first), buffer, deep);
         let answer = done.answer;
         answers[i] = answer.number() as u8;
         deep = done.deep;

@@ -5,26 +5,45 @@ use lib.ListN.{length}
 use native.Mathlib.Omega.{arith}
 use Prim.Native.Nat.{_-_, _<_, min}
 use Rattle.steps.proofs.Answering.{answer-byte}
-use Rattle.requests.proofs.Turns.{Turned, turned-none, turned-room, turned-more, turned-end}
+use Rattle.requests.proofs.Turns.{Turned, turned-none, turned-room, turned-record, turned-more, turned-end}
 use Rattle.requests.proofs.Keeping.{runs-holds}
+use borrow.Author.Needs.{needs}
 use Rattle.requests.proofs.run.Statement.{statement}
 use Rattle.requests.proofs.run.Tie as tie
+use Rattle.requests.proofs.run.Reads as reads
+use Rattle.requests.proofs.run.Lts as lts
+use Rattle.answers.proofs.Answer.number.Reads as number-reads
+use Rattle.records.proofs.count_after.Reads as count-after-reads
+use Rattle.records.proofs.least.Reads as least-reads
+use Rattle.records.proofs.record_at.Reads as record-at-reads
+use Rattle.steps.proofs.step.Reads as step-reads
 
 abbrev Inv-loop : tie.InvT-loop
-Inv-loop records buffer₀ answers₀ count deep₀ i₀ buffer answers deep i = Turned records buffer₀ answers₀ count buffer answers deep i
+Inv-loop part ends buffer₀ answers₀ first count deep₀ i₀ buffer answers deep i = Turned part ends first deep₀ buffer₀ answers₀ count buffer answers deep i
 
 abbrev μ-loop : tie.MeasureT-loop
-μ-loop records buffer₀ answers₀ count deep₀ i₀ buffer answers deep i = count - i
+μ-loop part ends buffer₀ answers₀ first count deep₀ i₀ buffer answers deep i = count - i
+
+count-after-requires : tie.Need-count-after-requires Inv-loop μ-loop
+count-after-requires c κs = omega (arith, c .before .before .before .pre .1)
+
+least-requires : tie.Need-least-requires Inv-loop μ-loop
+least-requires c κs = search needs
 
 loop-holds : tie.Need-loop-holds Inv-loop μ-loop
-loop-holds c =
-    turned-none _ _ _ _ (c .least .ensures ∙ ap (λ n. min n (length (c .before .before .before .before .before .args .answers .now))) (c .before .record-count .ensures))
+loop-holds c = let e = c .least .ensures ∙ ap (λ n. min n (length (c .before .before .before .before .before .args .answers .now))) (c .before .count-after .ensures) in turned-none _ _ _ _ _ _ _ e (omega (arith, e, c .before .before .before .before .before .pre .1))
+
+sub-record-at : tie.Need-sub-record-at Inv-loop μ-loop
+sub-record-at c = omega (arith, c .before .loop .inv .from)
 
 record-at-requires : tie.Need-record-at-requires Inv-loop μ-loop
-record-at-requires c κs = omega (arith, c .before .loop .inv .all)
+record-at-requires c κs = turned-record (c .before .loop .inv) (c .loop-test .taken)
 
 step-requires : tie.Need-step-requires Inv-loop μ-loop
-step-requires c κs = runs-holds (c .before .before .before .loop .inv .runs)
+step-requires c κs = runs-holds (c .before .before .before .before .before .before .before .before .before .pre .0) (c .before .before .before .loop .inv .runs)
+
+number-requires : tie.Need-number-requires Inv-loop μ-loop
+number-requires c κs = search needs
 
 cast-answers : tie.Need-cast-answers Inv-loop μ-loop
 cast-answers c = record { fits = subst (λ n. n < 256) (sym (c .number .ensures)) (answer-byte (c .before .before .before .step .result .answer)) }
@@ -32,13 +51,20 @@ cast-answers c = record { fits = subst (λ n. n < 256) (sym (c .number .ensures)
 slice-write-answers : tie.Need-slice-write-answers Inv-loop μ-loop
 slice-write-answers c = turned-room (c .before .before .before .before .before .before .before .loop .inv) (c .before .before .before .before .before .before .loop-test .taken)
 
+add-i : tie.Need-add-i Inv-loop μ-loop
+add-i c = search needs
+
+loop-less : tie.Need-loop-less Inv-loop μ-loop
+loop-less c = search needs
+
 loop-again : tie.Need-loop-again Inv-loop μ-loop
-loop-again c =
-    let s = c .before .before .before in
-    let l = s .before .before .before in
-    turned-more (l .before .loop .inv) (l .loop-test .taken) (s .before .before .record-at .ensures) (c .number .ensures) (s .step .ensures)
-    (λ i. c .before .slice-known3 .given i .fits)
-    (s .step .kept .1 .0)
+loop-again c = turned-more (c .before .before .before .before .before .before .before .loop .inv) (c .before .before .before .before .before .before .loop-test .taken) (c .before .before .before .before .before .record-at .ensures) (c .number .ensures) (c .before .before .before .step .ensures) (λ i. c .before .slice-known3 .given i .fits) (c .before .before .before .step .kept .1 .0)
+
+same-length : tie.Need-same-length Inv-loop μ-loop
+same-length c = search needs
+
+same-length-2 : tie.Need-same-length-2 Inv-loop μ-loop
+same-length-2 c = search needs
 
 returns : tie.Need-returns Inv-loop μ-loop
 returns c = turned-end (c .before .loop .inv) (c .loop-test .left)
@@ -49,17 +75,18 @@ run-spec =
     (tie.spec
     Inv-loop
     μ-loop
-    (λ c κs. search needs)
-    (λ c κs. search needs)
+    count-after-requires
+    least-requires
     loop-holds
+    sub-record-at
     record-at-requires
     step-requires
-    (λ c κs. search needs)
+    number-requires
     cast-answers
     slice-write-answers
-    (λ c. search needs)
-    (λ c. search needs)
+    add-i
+    loop-less
     loop-again
-    (λ c. search needs)
-    (λ c. search needs)
+    same-length
+    same-length-2
     returns)

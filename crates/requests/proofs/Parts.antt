@@ -1,0 +1,106 @@
+-- A run goes on from part to part: the parts in turn are the run of their bytes together, however these are cut between records.
+use mathlib.Core.Path.{_≡_, refl, sym, ap, ap₂, _∙_, subst, subst⁻¹}
+use mathlib.Core.Bool.{Bool, true, false}
+use mathlib.Core.List.{List, [], _∷_, _++_, append-assoc, append-nil}
+use Prim.Native.Nat.{ℕ, _+_, _-_, _*_, _/_, _%_, _≤_, _<_, min}
+use native.Mathlib.Omega.{arith}
+use lib.ListN.{length, take, drop, length-append, length-drop, take-append-drop}
+use lib.Seq.{slice, length-slice, length-take-le, take-take, take-append-le, drop-append-le, drop-append-add, drop-drop}
+use Rattle.records.specs.Records.{recordAt, recordsIn, mostRecords, countAfter}
+use Rattle.steps.specs.Steps.{Step}
+use Rattle.requests.specs.Requests.{Runs, Part, Run, Parts, Ended}
+use Rattle.requests.specs.Requests.Runs.{none, more}
+use Rattle.requests.specs.Requests.Parts.{none as no-parts, more as one-more}
+use Rattle.requests.proofs.Once.{run-one}
+
+-- ---- records of bytes put together
+
+record-before : (rs p : List ℕ) (i : ℕ) → 8 * i + 8 ≤ length rs → recordAt (rs ++ p) i ≡ recordAt rs i
+record-before rs p i h =
+    ap (take 8) (drop-append-le (8 * i) rs p (omega arith)) ∙ take-append-le 8 (drop (8 * i) rs) p (omega (arith, length-drop (8 * i) rs))
+
+record-behind : (rs p : List ℕ) (n j : ℕ) → 8 * n ≡ length rs → recordAt (rs ++ p) (n + j) ≡ recordAt p j
+record-behind rs p n j e =
+    let k : 8 * (n + j) ≡ length rs + 8 * j = omega (arith, e) in
+    ap (λ x. take 8 (drop x (rs ++ p))) k ∙ ap (take 8) (drop-append-add rs p (8 * j))
+
+-- ---- runs of bytes put together
+
+runs-longer : {rs b xs u : List ℕ} {C D : ℕ} (p : List ℕ) → Runs rs C b xs D u → 8 * length xs ≤ length rs → Runs (rs ++ p) C b xs D u
+runs-longer p none h = none
+runs-longer {rs} p (more {given = g} {t = t} {u = u} {D = D} {E = E} {n = n} r s y) h =
+    let l = length-append g (n ∷ []) in
+    more (runs-longer p r (omega (arith, h, l))) (subst⁻¹ (λ x. Step x D t n E u) (record-before rs p (length g) (omega (arith, h, l))) s) y
+
+runs-then : {rs p b xs ys t u : List ℕ} {B C D : ℕ} → Runs rs B b xs C t
+    → ((j : ℕ) → j < length ys → recordAt rs (length xs + j) ≡ recordAt p j) → Runs p C t ys D u → Runs rs B b (xs ++ ys) D u
+runs-then {rs} {b = b} {xs = xs} {t = t} {B = B} {C = C} r h none = subst⁻¹ (λ x. Runs rs B b x C t) (append-nil xs) r
+runs-then {rs} {b = b} {xs = xs} {B = B} r h (more {given = g} {t = t} {u = u} {D = D} {E = E} {n = n} q s y) =
+    let l = length-append g (n ∷ []) in
+    let e : recordAt rs (length (xs ++ g)) ≡ recordAt _ (length g) = ap (recordAt rs) (length-append xs g) ∙ h (length g) (omega (arith, l)) in
+    subst (λ x. Runs rs B b x E u) (append-assoc xs g (n ∷ []))
+    (more (runs-then r (λ j k. h j (omega (arith, l, k))) q) (subst⁻¹ (λ x. Step x D t n E u) e s) y)
+
+-- ---- parts in turn
+
+-- what parts of whole records, rs together, have come to
+pub record Sofar (b out rs : List ℕ) (n C : ℕ) (t given : List ℕ) : Type 0 where
+  pub whole : length rs % 8 ≡ 0
+  pub count : n ≡ min (min mostRecords (length rs / 8)) (length out)
+  pub runs : Runs rs 0 b (take n given) C t
+  pub long : length given ≡ length out
+  pub rest : drop n given ≡ drop n out
+
+module _ {b out rs p t u given after : List ℕ} {ends : Bool} {n m C D : ℕ} (h : Sofar b out rs n C t given) (q : Part p ends n C t given m D u after) where
+  pub on-count : m ≡ min (min mostRecords (length rs / 8 + recordsIn ends p)) (length out)
+  on-count = omega (arith, h .count, h .long, q .all)
+
+  on-after : n ≤ m
+  on-after = omega (arith, h .count, h .long, q .all)
+
+  on-answers : take m after ≡ take n given ++ slice n m after
+  on-answers = sym (take-append-drop n (take m after)) ∙ ap (λ x. x ++ slice n m after) (take-take n m after on-after ∙ q .front)
+
+  -- the part's records follow those of rs, where it has any that are answered
+  on-record : (j : ℕ) → j < length (slice n m after) → recordAt (rs ++ p) (length (take n given) + j) ≡ recordAt p j
+  on-record j l =
+      let s = length-slice n m after (omega (arith, q .all, q .long)) in
+      let e = length-take-le n given (omega (arith, h .count, h .long)) in
+      ap (λ k. recordAt (rs ++ p) (k + j)) e ∙ record-behind rs p n j (omega (arith, h .count, h .long, h .whole, q .all, s, l))
+
+  on-runs : Runs (rs ++ p) 0 b (take m after) D u
+  on-runs =
+      let e = length-take-le n given (omega (arith, h .count, h .long)) in
+      subst⁻¹ (λ x. Runs (rs ++ p) 0 b x D u) on-answers
+      (runs-then (runs-longer p (h .runs) (omega (arith, e, h .count, h .whole))) on-record (q .runs))
+
+  on-rest : drop m after ≡ drop m out
+  on-rest =
+      let e : n + (m - n) ≡ m = omega (arith, on-after) in
+      q .rest ∙ ap (λ k. drop k given) (sym e) ∙ sym (drop-drop (m - n) n given) ∙ ap (drop (m - n)) (h .rest) ∙ drop-drop (m - n) n out ∙ ap (λ k. drop k out) e
+
+parts-sofar : {b out rs t given : List ℕ} {n C : ℕ} → Parts b out rs n C t given → Sofar b out rs n C t given
+parts-sofar no-parts = record { whole = refl; count = omega arith; runs = none; long = refl; rest = refl }
+parts-sofar (one-more {rs = rs} {p = p} a w q) =
+    let h = parts-sofar a in
+    let l = length-append rs p in
+    record { whole = omega (arith, l, w, h .whole); count = omega (arith, l, w, h .whole, on-count h q); runs = on-runs h q; long = q .long ∙ h .long; rest = on-rest h q }
+
+-- the parts in turn, and the last, with which the input ends, are the run of the whole
+pub parts-run : {b out rs p t u given after : List ℕ} {n m C D : ℕ} → Parts b out rs n C t given → Part p true n C t given m D u after
+    → Run (rs ++ p) b out m D u after
+parts-run {rs = rs} {p = p} a q =
+    let h = parts-sofar a in
+    record {
+      all = omega (arith, length-append rs p, h .whole, on-count h q);
+      runs = on-runs h q;
+      long = q .long ∙ h .long;
+      front = refl;
+      rest = on-rest h q;
+    }
+
+-- so it is one and the same, however the bytes are cut: the answers, the last depth and the buffer are those of the run of the whole
+pub parts-one :
+    {b out rs p t u given after v x : List ℕ} {n m k C D E : ℕ} → Parts b out rs n C t given → Part p true n C t given m D u after
+    → Run (rs ++ p) b out k E v x → (m ≡ k) × (D ≡ E) × (u ≡ v) × (after ≡ x)
+parts-one a q r = run-one (parts-run a q) r
