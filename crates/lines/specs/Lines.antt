@@ -1,4 +1,4 @@
--- What the program prints: a line for each record, its number and its answer; a line for each leaf, its leaf number and its node.
+-- A printed line.
 use mathlib.Core.Path.{_≡_}
 use mathlib.Core.List.{List, [], _∷_, _++_}
 use Prim.Native.Nat.{ℕ}

@@ -8,9 +8,12 @@ use lib.ListN.{length, take, drop, length-append, length-drop, take-append-drop}
 use lib.Seq.{slice, length-slice, length-take-le, take-take, take-append-le, drop-append-le, drop-append-add, drop-drop}
 use Rattle.records.specs.Records.{recordAt, recordsIn, mostRecords, countAfter}
 use Rattle.steps.specs.Steps.{Step}
+use Rattle.steps.specs.Holding.{Holds}
+use Rattle.steps.proofs.Keeping.{holds-none}
 use Rattle.requests.specs.Requests.{Runs, Part, Run, Parts, Ended}
 use Rattle.requests.specs.Requests.Runs.{none, more}
 use Rattle.requests.specs.Requests.Parts.{none as no-parts, more as one-more}
+use Rattle.requests.proofs.Keeping.{runs-holds}
 use Rattle.requests.proofs.Once.{run-one}
 
 -- ---- records of bytes put together
@@ -104,3 +107,39 @@ pub parts-one :
     {b out rs p t u given after v x : List ℕ} {n m k C D E : ℕ} → Parts b out rs n C t given → Part p true n C t given m D u after
     → Run (rs ++ p) b out k E v x → (m ≡ k) × (D ≡ E) × (u ≡ v) × (after ≡ x)
 parts-one a q r = run-one (parts-run a q) r
+
+-- ---- a loop that reads part by part
+
+-- its invariant: what was read are parts of whole records
+pub record Reading (b out t given : List ℕ) (n C : ℕ) : Type 0 where
+  pub read : List ℕ
+  pub parts : Parts b out read n C t given
+
+pub reading-none : (b out : List ℕ) → Reading b out b out 0 0
+reading-none b out = record { read = []; parts = no-parts }
+
+module _ {b out t given : List ℕ} {n C : ℕ} (h : Reading b out t given n C) where
+  pub reading-holds : Holds C t
+  reading-holds = runs-holds (holds-none b) (parts-sofar (h .parts) .runs)
+
+  pub reading-room : n ≤ min mostRecords (length given)
+  reading-room = let s = parts-sofar (h .parts) in omega (arith, s .count, s .long)
+
+  -- a part with a record in it brings the run on, up to the limit
+  pub reading-grows : {p u after : List ℕ} {m D : ℕ} → Part p false n C t given m D u after → n < mostRecords → mostRecords ≤ length out → 8 ≤ length p → n < m
+  reading-grows q l r w = omega (arith, q .all, parts-sofar (h .parts) .long)
+
+  pub reading-more : {p u after : List ℕ} {m D : ℕ} → length p % 8 ≡ 0 → Part p false n C t given m D u after → Reading b out u after m D
+  reading-more {p} w q = record { read = h .read ++ p; parts = one-more (h .parts) w q }
+
+  module _ (r : mostRecords ≤ length out) where
+    -- with the part that the input ends with, or at the limit, the run is over
+    pub reading-ended : {p u after : List ℕ} {m D : ℕ} → Part p true n C t given m D u after → Ended (take m after) D u
+    reading-ended {p} {after = after} {m = m} q =
+        let w = parts-run (h .parts) q in
+        record { input = h .read ++ p; before = b; runs = w .runs; all = length-take-le m after (omega (arith, w .all, w .long)) ∙ omega (arith, w .all, r) }
+
+    pub reading-limit : mostRecords ≤ n → Ended (take n given) C t
+    reading-limit l =
+        let s = parts-sofar (h .parts) in
+        record { input = h .read; before = b; runs = s .runs; all = length-take-le n given (omega (arith, s .count, s .long)) ∙ omega (arith, s .count, r, l) }

@@ -1,51 +1,72 @@
-// The scanner: reads request records from standard input, works through them, and prints a line for each answer. Then, if a panel is
-// open, it prints a line for each of its leaves.
+// The scanner: reads request records from standard input, in parts, and works through each from what the part before left. Then it prints a line
+// for each answer and, if a panel is open, a line for each of its leaves.
 use libc::STDIN_FILENO;
 use libc::STDOUT_FILENO;
-use nodes::LeafNumber;
+use requests::Ran;
 ghost use mathlib.Core.Path.{_≡_};
-ghost use Rattle.panel.specs.Panels.{deepOf, Good};
+ghost use Prim.Native.Nat.{_≤_};
+ghost use lib.ListN.{length, take};
+ghost use Rattle.io.specs.Counts.{Counts};
+ghost use Rattle.records.specs.Records.{mostRecords};
+ghost use Rattle.requests.specs.Requests.{Ended};
+ghost use Rattle.printing.specs.Printing.{lineCount, Lines};
 
-fn wide(x: u8) -> u64 {
-    x as u64
-}
+// The bytes of a part: 512 records.
+const PART: usize = 8 * 512;
 
-// One line, in one write.
-fn print_line(a: u64, b: u64) {
-    let mut out = [0u8; lines::LONGEST];
-    let n = lines::line(a, b, &mut out);
-    io::write_all(STDOUT_FILENO, &out[..n]);
-}
-
-// Each record's number from 1, and its answer.
-fn print_answers(answers: &[u8]) {
-    for i in 0..answers.len() {
-        print_line(i as u64 + 1, wide(answers[i]));
-    }
-}
-
-// Each leaf's number, and its node. The panel is good, and is not judged again.
-fn print_leaves(panel: &[u8], deep: usize)
-    requires { ⌜ Good (now panel) × (deep ≡ deepOf (now panel)) ⌝ }
+// Reads the input part by part, to its end or to the limit of records, and works through it.
+fn work(buffer: &mut [u8], answers: &mut [u8]) -> Ran
+    requires { ⌜ mostRecords ≤ length (now answers) ⌝ }
+    ensures { λ r. ⌜ Ended (take (r .count) (now (answers .exit))) (r .deep) (now (buffer .exit)) ⌝ }
+    ensures { λ r. ⌜ Counts (r .count) (now (answers .exit)) ⌝ }
 {
-    let n = leaves::count(panel, deep);
-    for i in 0..n {
-        let k = leaves::leaf_at(panel, deep, LeafNumber(i));
-        print_line(i as u64, k.0 as u64);
+    let mut input = [0u8; PART];
+    let mut count: usize = 0;
+    let mut deep: usize = 0;
+    while count < records::MOST_RECORDS {
+        let got = io::read_full(STDIN_FILENO, &mut input);
+        let ran = requests::run(&input[..got], got < PART, buffer, answers, Ran { count, deep });
+        if got < PART {
+            return ran;
+        }
+        count = ran.count;
+        deep = ran.deep;
     }
+    Ran { count, deep }
+}
+
+// Hands a block to standard output, where as many lines as `done` says were handed out before: its text is that of the next lines up to another, whole,
+// in order, and nothing else. `answers`, `buffer` and `deep` are lent for that to be said.
+fn hand_out(answers: &[u8], buffer: &[u8], deep: usize, done: &mut usize, upto: usize, text: &[u8])
+    requires { ⌜ Lines (now answers) deep (now buffer) (now done) upto (now text) ⌝ }
+    ensures { λ _. ⌜ now (done .exit) ≡ upto ⌝ }
+{
+    io::write_all(STDOUT_FILENO, text);
+    *done = upto;
+}
+
+// Prints what a run came to, a block at a time, and tells how many lines it has handed out.
+fn print(answers: &[u8], buffer: &[u8], deep: usize) -> usize
+    requires { ⌜ Ended (now answers) deep (now buffer) ⌝ }
+    ensures { λ r. ⌜ r ≡ lineCount (now (answers .entry)) deep (now (buffer .entry)) ⌝ }
+{
+    let n = printing::line_count(answers, buffer, deep);
+    let mut block = [0u8; printing::BLOCK];
+    let mut done: usize = 0;
+    let mut next: usize = 0;
+    while next < n {
+        let filled = printing::fill(answers, buffer, deep, next, &mut block);
+        let size = filled.size;
+        hand_out(answers, buffer, deep, &mut done, filled.upto, &block[..size]);
+        next = filled.upto;
+    }
+    done
 }
 
 fn main() {
-    let mut input = [0u8; 8 * records::MOST_RECORDS];
     let mut buffer = [0u8; panel::GREATEST_SIZE];
     let mut answers = [0u8; records::MOST_RECORDS];
-    let got = io::read_full(STDIN_FILENO, &mut input);
-    let ran = requests::run(&input[..got], &mut buffer, &mut answers);
+    let ran = work(&mut buffer, &mut answers);
     let count = ran.count;
-    print_answers(&answers[..count]);
-    let deep = ran.deep;
-    if deep != 0 {
-        let len = panel::size(deep);
-        print_leaves(&buffer[..len], deep);
-    }
+    print(&answers[..count], &buffer, ran.deep);
 }
