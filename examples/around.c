@@ -19,7 +19,7 @@ static void around(uint32_t node)
 
 int main(void)
 {
-    static const uint32_t nodes[] = {2, 8, 10, 17, 32767, 32768, 1};
+    static const uint32_t nodes[] = {2, 8, 10, 17, 262143, 262144, 1};
     for (size_t i = 0; i < sizeof nodes / sizeof *nodes; i++)
         around(nodes[i]);
     return 0;

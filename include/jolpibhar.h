@@ -19,11 +19,11 @@
 #include <stdint.h>
 
 #define JOLPIBHAR_VERSION_MAJOR 0
-#define JOLPIBHAR_VERSION_MINOR 2
-#define JOLPIBHAR_VERSION_PATCH 1
-#define JOLPIBHAR_VERSION "0.2.1"
+#define JOLPIBHAR_VERSION_MINOR 3
+#define JOLPIBHAR_VERSION_PATCH 0
+#define JOLPIBHAR_VERSION "0.3.0"
 
-/* The bytes of a panel of depth D, 3 to 14. Where D is a constant it is one too: uint8_t panel[PANEL_BYTES(14)]; */
+/* The bytes of a panel of depth D, 3 to 17. Where D is a constant it is one too: uint8_t panel[PANEL_BYTES(17)]; */
 #define PANEL_BYTES(D) ((size_t)1 << ((D) - 1))
 
 #ifdef __cplusplus
@@ -33,9 +33,9 @@ extern "C" {
 /* The lowest number that applies is answered. */
 enum {
     PANEL_DONE = 0,
-    PANEL_WRONG_LENGTH = 1,      /* length isn't 2^(D-1) for a D of 3 to 14; on open, also a depth out of range or that doesn't fit */
+    PANEL_WRONG_LENGTH = 1,      /* length isn't 2^(D-1) for a D of 3 to 17; on open, also a depth out of range or that doesn't fit */
     PANEL_NOT_GOOD = 2,          /* length fits, panel isn't good */
-    PANEL_NO_SUCH_NODE = 3,      /* node below 2, or above 2^(D+1)-1 (above 32,767 for calls that take no panel) */
+    PANEL_NO_SUCH_NODE = 3,      /* node below 2, or above 2^(D+1)-1 (above 262,143 for calls that take no panel) */
     PANEL_NOT_LEAF = 4,          /* node is in range but isn't a leaf */
     PANEL_AT_GREATEST_DEPTH = 5, /* leaf is at depth D */
     PANEL_AT_DEPTH_ONE = 6,      /* leaf is at depth 1 */
@@ -44,7 +44,7 @@ enum {
     PANEL_BAD_RECORD = 9         /* given by the program, never by these calls */
 };
 
-/* ---- calls that take no panel: nodes from 2 to 32,767 */
+/* ---- calls that take no panel: nodes from 2 to 262,143 */
 
 /* The neighbours of a node at its own depth; 0 is none. Answers 0, 3. */
 uint32_t node_neighbours(uint32_t node, uint32_t *left, uint32_t *right, uint32_t *edge);

@@ -5,7 +5,7 @@ use second::triangles::{depth, GREATEST_DEPTH, LEAST_DEPTH};
 
 use crate::fields;
 use crate::random::Random;
-use crate::runs::random_panel;
+use crate::runs::{bounded, random_panel};
 use crate::subject::{Asked, Subject};
 use crate::tally::{Compared, Tally};
 
@@ -123,7 +123,7 @@ fn wrong_length(length: usize, random: &mut Random) -> Vec<u8> {
 }
 
 fn lengths(tally: &mut Tally, random: &mut Random, cases: usize) -> Compared {
-    let around = (3..=17).flat_map(|k| [(1 << k) - 1, 1 << k, (1 << k) + 1, 3 << (k - 1)]);
+    let around = (3..=18).flat_map(|k| [(1 << k) - 1, 1 << k, (1 << k) + 1, 3 << (k - 1)]);
     for length in (0..=70).chain(around) {
         for _ in 0..cases.div_ceil(20) {
             let bytes = wrong_length(length, random);
@@ -139,7 +139,7 @@ pub fn all(tally: &mut Tally, random: &mut Random, cases: usize) -> Compared {
     let kinds = [flipped, other_leaf_bits, other_depth_word, stray_sum, random_bytes];
     for depth in LEAST_DEPTH..=GREATEST_DEPTH {
         for kind in kinds {
-            for _ in 0..cases {
+            for _ in 0..bounded(cases, depth) {
                 let bytes = kind(depth, random);
                 try_some(tally, random, &bytes)?;
             }

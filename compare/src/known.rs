@@ -1,5 +1,5 @@
-//! The values of document 01's section "Known panels" that it does not mark `[M]`, in its order. Each is asked of the second program and
-//! of the exported calls, and both must answer what stands here: the two agreeing is not enough.
+//! The values of document 01's section "Known panels" that it does not mark `[M]`, in its order, and the limits of request W5. Each is
+//! asked of the second program and of the exported calls, and both must answer what stands here: the two agreeing is not enough.
 
 use jolpibhar::exports;
 use second::calls;
@@ -29,7 +29,7 @@ type Told = (u32, [usize; 2]);
 /// The second program or the exported calls.
 type Side = fn(Call, &mut [u8]) -> Told;
 
-/// What 01 says; the panels and the calls that it says it of, each call on each panel; what they answer.
+/// What is said; the panels and the calls that it is said of, each call on each panel; what they answer.
 type Known = (&'static str, &'static [&'static [u8]], &'static [Call], Told);
 
 // Panels of depth 3, by the bytes that 01 gives: leaves 2, 3; leaves 8, 9, 5, 6, 7; all cut.
@@ -41,10 +41,18 @@ const ALL_CUT: &[u8] = &[0x0C, 0x92, 0xAA, 0xFF];
 const BITS: &[u8] = &[0x03, 0x00, 0x00, 0x00];
 const LEAF_BITS: &[u8] = &[0x8C, 0x08, 0x02, 0x03];
 
-const LENGTHS: &[&[u8]] = &[&[], &[0; 3], &[0; 5], &[0; 16_384]];
+const LENGTHS: &[&[u8]] = &[&[], &[0; 3], &[0; 5]];
+
+// Lengths beside those for D = 15 and D = 17, and the one that D = 18 would have; lengths that fit D = 3, 15 and 17, with no good panel.
+const NO_LENGTHS: &[&[u8]] = &[&[0; 16_383], &[0; 65_535], &[0; 65_537], &[0; 131_072]];
+const ZEROS: &[&[u8]] = &[&[0; 4], &[0; 16_384], &[0; 65_536]];
 
 /// The calls that judge the panel they are lent; open is the only other one.
 const JUDGING: &[Call] = &[Judge, Count, LeafAt(0), NumberOf(2), LeafBits, Split(2), Merge(2)];
+
+/// Depths in range; and beyond it, also such as are 3 or 17 in their lowest bits.
+const OPENS: &[Call] = &[Open(3), Open(15), Open(17)];
+const BEYOND: &[Call] = &[Open(18), Open(19), Open(35), Open(49), Open(259), Open(1 << 31), Open(u32::MAX)];
 
 const KNOWN: &[Known] = &[
     ("split 8 at D = 3 where 8 is a leaf: 5", &[FIVE, ALL_CUT], &[Split(8)], (5, [0, 0])),
@@ -53,9 +61,20 @@ const KNOWN: &[Known] = &[
     ("all cut at D = 3, node 16 answers 3", &[ALL_CUT], &[NumberOf(16), Split(16), Merge(16)], (3, [0, 0])),
     ("leaf number 4 of five is a leaf", &[FIVE], &[LeafAt(4)], (0, [7, 0])),
     ("leaf number 5 of five answers 8", &[FIVE], &[LeafAt(5)], (8, [0, 0])),
-    ("lengths 0, 3, 5 and 16,384 answer 1", LENGTHS, JUDGING, (1, [0, 0])),
-    ("lengths 0, 3, 5 and 16,384 answer 1", LENGTHS, &[Open(3), Open(15)], (1, [0, 0])),
+    ("lengths 0, 3 and 5 answer 1", LENGTHS, JUDGING, (1, [0, 0])),
+    ("lengths 0, 3 and 5 answer 1", LENGTHS, OPENS, (1, [0, 0])),
     ("bits 0 and 1 alone at D = 3 answer 2", &[BITS, LEAF_BITS], JUDGING, (2, [0, 0])),
+    ("refusal 1: length isn't 2^(D−1) for a D of 3 to 17", NO_LENGTHS, JUDGING, (1, [0, 0])),
+    ("refusal 1: length isn't 2^(D−1) for a D of 3 to 17", NO_LENGTHS, OPENS, (1, [0, 0])),
+    ("refusal 1: on open, also a depth out of range", NO_LENGTHS, BEYOND, (1, [0, 0])),
+    ("refusal 1: on open, also a depth out of range", ZEROS, BEYOND, (1, [0, 0])),
+    ("refusal 2: length fits, panel isn't good", ZEROS, JUDGING, (2, [0, 0])),
+];
+
+/// What W5 says of finer panels: a depth, its length and its last node.
+const FINER: &[(&str, u32, usize, u32)] = &[
+    ("length 16,384 is now good for D = 15", 15, 16_384, 65_535),
+    ("D up to 17, a panel of 65,536 bytes; nodes go to 262,143", 17, 65_536, 262_143),
 ];
 
 fn alone(answer: u32) -> Told {
@@ -96,22 +115,38 @@ fn by_exports(call: Call, panel: &mut [u8]) -> Told {
     }
 }
 
-/// Both sides tell what is known, and leave the panel as it is: no known value here is of a call that changes it.
-fn one(says: &str, panel: &[u8], call: Call, known: Told) -> Compared {
+/// Both sides tell what is known, and leave the panel with the known bytes.
+fn one(says: &str, panel: &[u8], call: Call, known: Told, after: &[u8]) -> Compared {
     let sides: [(&str, Side); 2] = [("second", by_second), ("exports", by_exports)];
     for (side, ask) in sides {
         let mut lent = panel.to_vec();
         let told = ask(call, &mut lent);
-        if told != known || lent != panel {
+        if told != known || lent != after {
             let line = |(answer, [one, other]): Told| format!("answer {answer} with {one}, {other}");
-            let bytes = if lent == panel { "" } else { ", and other bytes" };
+            let bytes = if lent == after { "" } else { ", and other bytes" };
             return Err(Difference(format!(
-                "01 says: {says}\n  asked: {call:?}, panel of {} bytes: {}\n  {side}: {}{bytes}\n  known: {}",
+                "01 or W5 says: {says}\n  asked: {call:?}, panel of {} bytes: {}\n  {side}: {}{bytes}\n  known: {}",
                 panel.len(),
                 hex(panel),
                 line(told),
                 line(known)
             )));
+        }
+    }
+    Ok(())
+}
+
+/// An open of each finer depth leaves the panel whose leaf bits are those of nodes 2 and 3; it is good, and has nodes to its last.
+fn finer(tally: &mut Tally) -> Compared {
+    for (says, depth, length, last) in FINER {
+        let mut leaf_bits = vec![false; 1 << depth];
+        (leaf_bits[0], leaf_bits[1 << (depth - 1)]) = (true, true);
+        let fresh = with_right_sums(*depth, &leaf_bits);
+        one(says, &vec![0xEE; *length], Open(*depth), alone(0), &fresh)?;
+        tally.known();
+        for (call, answer) in [(Judge, 0), (NumberOf(*last), 4), (NumberOf(*last + 1), 3)] {
+            one(says, &fresh, call, alone(answer), &fresh)?;
+            tally.known();
         }
     }
     Ok(())
@@ -123,10 +158,10 @@ pub fn all(tally: &mut Tally) -> Compared {
     for (says, panels, calls, known) in KNOWN {
         for panel in *panels {
             for call in *calls {
-                one(says, panel, *call, *known)?;
+                one(says, panel, *call, *known, panel)?;
                 tally.known();
             }
         }
     }
-    Ok(())
+    finer(tally)
 }

@@ -1,7 +1,8 @@
-//! The calls that take no panel: every node to 70,000, those around powers of two, and random ones.
+//! The calls that take no panel: every node there is and as many behind the last, those around powers of two, and random ones.
 
 use jolpibhar::exports;
 use second::calls;
+use second::triangles::LAST_NODE;
 
 use crate::random::Random;
 use crate::tally::{Compared, Tally};
@@ -16,10 +17,10 @@ fn one(tally: &mut Tally, node: u32) -> Compared {
 }
 
 pub fn all(tally: &mut Tally, random: &mut Random, cases: usize) -> Compared {
-    for node in 0..=70_000 {
+    for node in 0..=2 * LAST_NODE {
         one(tally, node)?;
     }
-    for power in 17..32 {
+    for power in 19..32 {
         for node in [(1 << power) - 1, 1 << power, (1 << power) + 1] {
             one(tally, node)?;
         }

@@ -9,6 +9,12 @@ use crate::random::Random;
 use crate::subject::{Asked, Subject};
 use crate::tally::{Compared, Tally};
 
+/// How many of so many cases are tried at a depth. A panel has twice the bytes of one a depth less; from 14 on half as many cases
+/// keep the time the same.
+pub fn bounded(cases: usize, depth: u32) -> usize {
+    (cases >> depth.saturating_sub(14)).max(1)
+}
+
 /// The smallest good panel with some random cuts, few or many.
 pub fn random_panel(panel_depth: u32, random: &mut Random) -> Panel {
     let nodes = 1usize << panel_depth;
@@ -72,7 +78,7 @@ fn all_over(tally: &mut Tally, random: &mut Random, panel: Panel) -> Compared {
 
 pub fn all(tally: &mut Tally, random: &mut Random, cases: usize) -> Compared {
     for depth in LEAST_DEPTH..=GREATEST_DEPTH {
-        let steps = if depth <= 10 { 4 * cases } else { cases };
+        let steps = if depth <= 10 { 4 * cases } else { bounded(cases, depth) };
         let fresh = Panel::fresh(depth).expect("a depth in range");
         run(tally, random, fresh, steps)?;
         let some = random_panel(depth, random);

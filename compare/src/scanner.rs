@@ -1,50 +1,75 @@
 //! The scanner program on request files: it prints what the second program prints, however its input comes.
 
 use std::io::{self, ErrorKind, Read, Write};
-use std::process::{Command, Stdio};
-use std::thread::sleep;
+use std::process::{ChildStdin, Command, Stdio};
+use std::thread::{self, sleep};
 use std::time::Duration;
 
 use second::panel::Panel;
-use second::requests::{self, records_of_text, MOST_RECORDS};
+use second::requests::{self, records_of_text, MOST_RECORDS, RECORD};
 use second::triangles::{GREATEST_DEPTH, LEAST_DEPTH};
 
 use crate::random::Random;
 use crate::runs::node;
+use crate::subject::any_depth;
 use crate::tally::{Compared, Difference, Tally};
 
 const PROGRAM: &str = concat!(env!("CARGO_MANIFEST_DIR"), "/../.ci/scanner");
 
-/// How the input comes: whole, or in parts of uneven length that the program reads one by one.
+/// Where an input that is read in parts, and lines that are written in blocks, have their borders: 512 records, and 8 KiB of text.
+const PART: usize = 512;
+const BLOCK: usize = 8192;
+
+/// How long the program takes to start, under an emulator too. What comes earlier comes as one part.
+const START: Duration = Duration::from_millis(200);
+
+/// How the input comes: whole, or in parts that the program reads one by one.
 #[derive(Clone, Copy)]
 enum Comes {
     Whole,
-    InParts,
+    /// Parts of so many bytes.
+    Even(usize),
+    /// Parts of one byte to so many.
+    Uneven(usize),
 }
+use Comes::*;
 
-/// What the scanner prints. It reads no more than it takes, so the pipe may close before all is written.
-fn printed(file: &[u8], comes: Comes, random: &mut Random) -> io::Result<String> {
-    let mut child = Command::new(PROGRAM).stdin(Stdio::piped()).stdout(Stdio::piped()).spawn()?;
-    let mut input = child.stdin.take().expect("a pipe");
+/// Writes the file to the program. That reads no more than it takes, so the pipe may close before all is written.
+fn feed(mut input: ChildStdin, file: &[u8], comes: Comes, random: &mut Random) -> io::Result<()> {
     let mut rest = file;
+    if !matches!(comes, Whole) {
+        sleep(START);
+    }
     while !rest.is_empty() {
         let length = match comes {
-            Comes::Whole => rest.len(),
-            Comes::InParts => rest.len().min(1 + random.below(13)),
+            Whole => rest.len(),
+            Even(bytes) => bytes,
+            Uneven(most) => 1 + random.below(most),
         };
-        let (part, later) = rest.split_at(length);
+        let (part, later) = rest.split_at(length.min(rest.len()));
         match input.write_all(part) {
             Err(e) if e.kind() == ErrorKind::BrokenPipe => break,
             written => written?,
         }
         rest = later;
-        if let Comes::InParts = comes {
+        if !matches!(comes, Whole) {
             sleep(Duration::from_micros(200));
         }
     }
-    drop(input);
-    let mut text = String::new();
-    child.stdout.take().expect("a pipe").read_to_string(&mut text)?;
+    Ok(())
+}
+
+/// What the scanner prints. It is read while the input is written: the program may print before it has read all.
+fn printed(file: &[u8], comes: Comes, random: &mut Random) -> io::Result<String> {
+    let mut child = Command::new(PROGRAM).stdin(Stdio::piped()).stdout(Stdio::piped()).spawn()?;
+    let input = child.stdin.take().expect("a pipe");
+    let mut output = child.stdout.take().expect("a pipe");
+    let reader = thread::spawn(move || {
+        let mut text = String::new();
+        output.read_to_string(&mut text).map(|_| text)
+    });
+    feed(input, file, comes, random)?;
+    let mut text = reader.join().expect("reading does not panic")?;
     if !child.wait()?.success() {
         text += "(and stops with an error)";
     }
@@ -72,8 +97,27 @@ fn one(tally: &mut Tally, random: &mut Random, file: &[u8], comes: Comes) -> Com
     Ok(())
 }
 
+// ---- request files
+
 fn records(text: &str) -> Vec<u8> {
     records_of_text(text).expect("request text")
+}
+
+/// An open, and a split of every node from 2 up.
+fn level_by_level(depth: u32, many: usize) -> Vec<u8> {
+    let splits = (2..).map(|k| format!("split {k}\n"));
+    records(&[format!("open {depth}\n")].into_iter().chain(splits).take(many).collect::<String>())
+}
+
+/// So many records, the last of them an open and splits: the leaves show which of these were done.
+fn opened_late(many: usize) -> Vec<u8> {
+    let late = level_by_level(5, 9);
+    [records("merge 2").repeat(many - late.len() / RECORD), late].concat()
+}
+
+/// The file with the first bytes of a good record behind it.
+fn with_tail(file: &[u8], length: usize) -> Vec<u8> {
+    [file, &records("split 4")[..length]].concat()
 }
 
 /// A record that is bad by its kind or by one of its spare bytes.
@@ -87,13 +131,13 @@ fn bad(random: &mut Random) -> String {
 }
 
 /// So many requests: mostly splits and merges of leaves, a few more opens and bad records among them.
-fn some(depth: u32, many: usize, random: &mut Random) -> String {
+fn some(depth: u32, many: usize, random: &mut Random) -> Vec<u8> {
     let mut text = String::new();
     let mut panel: Option<Panel> = None;
     for step in 0..many {
         let open = if panel.is_none() { random.once_in(2) } else { random.once_in(100) };
         let (kind, number) = if open {
-            let depth = if random.once_in(2) { depth } else { random.below(17) as u32 };
+            let depth = if random.once_in(2) { depth } else { any_depth(random) };
             panel = Panel::fresh(depth).ok().or(panel);
             ("open", depth)
         } else {
@@ -109,43 +153,116 @@ fn some(depth: u32, many: usize, random: &mut Random) -> String {
             text += &bad(random);
         }
     }
-    text
+    records(&text)
 }
 
-/// Nothing, tails, and the limit.
-fn ends(tally: &mut Tally, random: &mut Random) -> Compared {
+/// An open and so many splits, mostly of leaves just above the greatest depth: few requests, many leaves.
+fn deep(depth: u32, many: usize, random: &mut Random) -> Vec<u8> {
+    let mut text = format!("open {depth}\n");
+    let mut panel = Panel::fresh(depth).expect("a depth in range");
+    for _ in 0..many {
+        let some = (0..8).map(|_| random.pick(panel.leaves()));
+        let leaf = some.filter(|n| n.ilog2() < depth).max().unwrap_or(panel.leaves()[0]);
+        text += &format!("split {leaf}\n");
+        panel.split(leaf).ok();
+    }
+    records(&text)
+}
+
+/// An open, splits, and then refused requests, so many that what is printed has exactly so many bytes.
+fn printing(bytes: usize) -> Vec<u8> {
+    let file = (2..100).find_map(|many| {
+        let mut file = level_by_level(5, many);
+        let mut length = requests::run(&file).printed().len();
+        while length < bytes {
+            file.extend(records("merge 1"));
+            length += format!("{} 3\n", file.len() / RECORD).len();
+        }
+        (length == bytes).then_some(file)
+    });
+    let file = file.expect("panels whose leaves print texts of many lengths");
+    assert_eq!(requests::run(&file).printed().len(), bytes);
+    file
+}
+
+// ---- cases
+
+/// Nothing, and tails of every length.
+fn tails(tally: &mut Tally, random: &mut Random) -> Compared {
     let opened = records("open 3\nsplit 2\n");
-    for tail in 0..8 {
-        one(tally, random, &tail_of(tail), Comes::Whole)?;
-        one(tally, random, &[&opened[..], &tail_of(tail)].concat(), Comes::InParts)?;
+    for tail in 0..RECORD {
+        one(tally, random, &with_tail(&[], tail), Whole)?;
+        one(tally, random, &with_tail(&opened, tail), Uneven(13))?;
     }
-    for many in [MOST_RECORDS - 1, MOST_RECORDS, MOST_RECORDS + 1, MOST_RECORDS + 900] {
-        let file = level_by_level(5, many);
-        one(tally, random, &file, Comes::Whole)?;
-        one(tally, random, &[&file[..], &tail_of(3)].concat(), Comes::Whole)?;
-    }
-    one(tally, random, &level_by_level(GREATEST_DEPTH, MOST_RECORDS), Comes::Whole)
+    Ok(())
 }
 
-/// An open, and a split of every node from 2 up.
-fn level_by_level(depth: u32, many: usize) -> Vec<u8> {
-    let splits = (2..).map(|k| format!("split {k}\n"));
-    records(&[format!("open {depth}\n")].into_iter().chain(splits).take(many).collect::<String>())
+/// As many records as the program takes, one less and some more, each with no tail, the shortest and the longest.
+fn limit(tally: &mut Tally, random: &mut Random) -> Compared {
+    for many in [MOST_RECORDS - 1, MOST_RECORDS, MOST_RECORDS + 1, MOST_RECORDS + 4] {
+        let file = opened_late(many);
+        for tail in [0, 1, RECORD - 1] {
+            one(tally, random, &with_tail(&file, tail), Whole)?;
+        }
+        one(tally, random, &with_tail(&file, 3), Uneven(700))?;
+    }
+    one(tally, random, &level_by_level(GREATEST_DEPTH, MOST_RECORDS + 900), Whole)
 }
 
-/// The first bytes of a good record.
-fn tail_of(length: usize) -> Vec<u8> {
-    records("split 4")[..length].to_vec()
+/// One part of records, one record less and more, and two parts, with and without a tail, however they come.
+fn parts(tally: &mut Tally, random: &mut Random) -> Compared {
+    let bytes = PART * RECORD;
+    for many in [PART - 1, PART, PART + 1, 2 * PART] {
+        let file = level_by_level(10, many);
+        for tail in [0, 1, RECORD - 1] {
+            for comes in [Whole, Uneven(13), Uneven(700)] {
+                one(tally, random, &with_tail(&file, tail), comes)?;
+            }
+        }
+    }
+    for comes in [Even(bytes - 1), Even(bytes), Even(bytes + 1)] {
+        one(tally, random, &with_tail(&level_by_level(10, 3 * PART), 5), comes)?;
+    }
+    Ok(())
+}
+
+/// Texts that end around the borders of blocks, and long ones of short and of long lines.
+fn blocks(tally: &mut Tally, random: &mut Random) -> Compared {
+    for border in [BLOCK, 2 * BLOCK, 3 * BLOCK] {
+        for end in border - 1..=border + 1 {
+            one(tally, random, &printing(end), Whole)?;
+        }
+    }
+    // a split of each node above depth 12: all is cut
+    one(tally, random, &level_by_level(12, (1 << 12) - 1), Whole)?;
+    let file = deep(GREATEST_DEPTH, 700, random);
+    one(tally, random, &file, Whole)
+}
+
+/// The finest panel, the coarsest and the finest again, one after the other in the program's one buffer, and depths beyond.
+fn opens(tally: &mut Tally, random: &mut Random) -> Compared {
+    let finest = deep(GREATEST_DEPTH, 60, random);
+    let coarsest = level_by_level(LEAST_DEPTH, 6);
+    let beyond = records("open 18\nopen 19\nopen 49\nopen 4294967295\n");
+    let mut file = Vec::new();
+    for more in [&beyond, &finest, &beyond, &coarsest, &beyond, &finest] {
+        file.extend(more);
+        one(tally, random, &file, Whole)?;
+    }
+    Ok(())
 }
 
 pub fn all(tally: &mut Tally, random: &mut Random, cases: usize) -> Compared {
-    ends(tally, random)?;
+    tails(tally, random)?;
+    limit(tally, random)?;
+    parts(tally, random)?;
+    blocks(tally, random)?;
+    opens(tally, random)?;
     for depth in LEAST_DEPTH..=GREATEST_DEPTH {
         for case in 0..cases.div_ceil(40) {
             let many = 1 + random.below(400);
-            let file = records(&some(depth, many, random));
-            let comes = if case == 0 { Comes::InParts } else { Comes::Whole };
-            one(tally, random, &file, comes)?;
+            let file = some(depth, many, random);
+            one(tally, random, &file, if case == 0 { Uneven(13) } else { Whole })?;
         }
     }
     Ok(())

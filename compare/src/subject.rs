@@ -6,6 +6,7 @@ use jolpibhar::exports;
 use second::calls::{self, told};
 use second::panel::{depth_of_length, Panel};
 use second::requests::hex;
+use second::triangles::{GREATEST_DEPTH, LAST_NODE};
 use second::Answer;
 
 use crate::frame::Frame;
@@ -20,14 +21,22 @@ pub struct Asked {
     pub depths: Vec<u32>,
 }
 
-/// Numbers that no panel has, at the ends of what a call can be asked.
-const FAR: [u32; 5] = [65_535, 65_536, 1 << 31, (1 << 31) + 2, u32::MAX];
+/// Numbers that few panels have or none: around the last node of all, and at the ends of what a call can be asked.
+const FAR: [u32; 7] = [65_535, 65_536, LAST_NODE, LAST_NODE + 1, 1 << 31, (1 << 31) + 2, u32::MAX];
+
+/// The end of the depths that are asked for: some are too great.
+const DEPTHS_END: u32 = GREATEST_DEPTH + 4;
+
+pub fn any_depth(random: &mut Random) -> u32 {
+    random.below(DEPTHS_END as usize) as u32
+}
 
 impl Asked {
     /// Every node, number and depth in and around range.
     pub fn all(depth: u32) -> Asked {
-        let and_far = |end: u32| (0..=end).chain(FAR).collect();
-        Asked { nodes: and_far((2 << depth) + 2), numbers: and_far((1 << depth) + 2), depths: and_far(17) }
+        let and_far = |end: u32| (0..end).chain(FAR).collect();
+        let (nodes, numbers) = (and_far((2 << depth) + 3), and_far((1 << depth) + 3));
+        Asked { nodes, numbers, depths: and_far(DEPTHS_END) }
     }
 
     /// To depth 11 every node, number and depth in and around range; above, the ends of each range and many between.
@@ -56,7 +65,7 @@ impl Asked {
                 numbers.push(random.below(count as usize) as u32);
             }
         }
-        let depths = vec![depth, depth - 1, depth + 1, random.below(18) as u32, random.pick(&FAR)];
+        let depths = vec![depth, depth - 1, depth + 1, any_depth(random), random.pick(&FAR)];
         Asked { nodes, numbers, depths }
     }
 }

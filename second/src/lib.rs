@@ -10,11 +10,11 @@ pub mod panel;
 pub mod requests;
 pub mod triangles;
 
-/// "length isn't 2^(D−1) for a D of 3 to 14; on open, also a depth that is out of range or doesn't fit the length"
+/// "length isn't 2^(D−1) for a D of 3 to 17; on open, also a depth that is out of range or doesn't fit the length"
 pub const WRONG_LENGTH: u32 = 1;
 /// "length fits, panel isn't good"
 pub const NOT_GOOD: u32 = 2;
-/// "node below 2, or above 2^(D+1)−1 (above 32,767 for neighbours and corners, which take no panel)"
+/// "node below 2, or above 2^(D+1)−1 (above 262,143 for neighbours and corners, which take no panel)"
 pub const NO_SUCH_NODE: u32 = 3;
 /// "node is in range but isn't a leaf"
 pub const NOT_A_LEAF: u32 = 4;

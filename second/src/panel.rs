@@ -43,11 +43,9 @@ pub fn leaf_bits_of(bytes: &[u8], depth: u32) -> Vec<bool> {
     (0..places).map(|p| bit(bytes, 3 * places + p)).collect()
 }
 
-/// The leaf bits below a node: their first place, and how many they are.
-fn below(node: u32, panel_depth: u32) -> (usize, usize) {
-    let levels = panel_depth - depth(node);
-    let first = ((node as usize) << levels) - (1 << panel_depth);
-    (first, 1 << levels)
+/// The place of the leftmost leaf bit below a node.
+fn leftmost(node: u32, panel_depth: u32) -> usize {
+    ((node as usize) << (panel_depth - depth(node))) - (1 << panel_depth)
 }
 
 /// The panel with these leaf bits: zero bits 0 and 1, the depth word, and each word from 1 up the count
@@ -56,13 +54,13 @@ pub fn with_right_sums(panel_depth: u32, leaf_bits: &[bool]) -> Vec<u8> {
     let deep = panel_depth as usize;
     let mut bytes = vec![0; length_of(panel_depth)];
     write(&mut bytes, 2, deep + 1, deep);
-    for node in 1..2u32 << panel_depth {
-        let d = depth(node) as usize;
+    for d in 0..=deep {
         let bits = deep - d + 1;
-        let start = (1 << (d + 1)) + node as usize * bits;
-        let (first, many) = below(node, panel_depth);
-        let set = leaf_bits[first..first + many].iter().filter(|b| **b).count();
-        write(&mut bytes, start, bits, set);
+        // the leaf bits below the nodes of one depth lie side by side, as many below each
+        for (node, part) in (1usize << d..).zip(leaf_bits.chunks(1 << (deep - d))) {
+            let set = part.iter().filter(|b| **b).count();
+            write(&mut bytes, (1 << (d + 1)) + node * bits, bits, set);
+        }
     }
     bytes
 }
@@ -97,15 +95,20 @@ pub fn good(cuts: &BTreeSet<u32>) -> bool {
     cuts.contains(&1) && cuts.iter().all(|n| asked_by(*n).iter().all(|m| cuts.contains(m)))
 }
 
-/// The least good set of cuts that holds these, by adding what is asked for until nothing is missing.
-pub fn closed(cuts: &BTreeSet<u32>) -> BTreeSet<u32> {
-    let mut all = cuts.clone();
-    all.insert(1);
-    let mut new: Vec<u32> = all.iter().copied().collect();
-    while !new.is_empty() {
-        let asked: Vec<u32> = new.iter().flat_map(|n| asked_by(*n)).collect();
-        new = asked.into_iter().filter(|m| all.insert(*m)).collect();
+/// Adds a cut and what is asked for by what is new, until nothing is missing.
+fn add(cuts: &mut BTreeSet<u32>, node: u32) {
+    let mut new = vec![node];
+    while let Some(n) = new.pop() {
+        if cuts.insert(n) {
+            new.extend(asked_by(n));
+        }
     }
+}
+
+/// The least good set of cuts that holds these.
+pub fn closed(cuts: &BTreeSet<u32>) -> BTreeSet<u32> {
+    let mut all = BTreeSet::from([1]);
+    cuts.iter().for_each(|n| add(&mut all, *n));
     all
 }
 
@@ -118,7 +121,7 @@ fn is_leaf(cuts: &BTreeSet<u32>, node: u32) -> bool {
 fn leaves_of(panel_depth: u32, cuts: &BTreeSet<u32>) -> Vec<u32> {
     let children = cuts.iter().flat_map(|n| [2 * n, 2 * n + 1]);
     let mut leaves: Vec<u32> = children.filter(|n| is_leaf(cuts, *n)).collect();
-    leaves.sort_by_key(|n| below(*n, panel_depth).0);
+    leaves.sort_by_cached_key(|n| leftmost(*n, panel_depth));
     leaves
 }
 
@@ -136,7 +139,7 @@ impl Panel {
         Panel { depth, cuts, leaves }
     }
 
-    /// The panel whose only cut is node 1, for a depth of 3 to 14.
+    /// The panel whose only cut is node 1, or 1 where the depth is out of range.
     pub fn fresh(depth: u32) -> Answer<Panel> {
         if !(LEAST_DEPTH..=GREATEST_DEPTH).contains(&depth) {
             return Err(WRONG_LENGTH);
@@ -179,7 +182,7 @@ impl Panel {
     pub fn leaf_bits(&self) -> Vec<bool> {
         let mut bits = vec![false; 1 << self.depth];
         for leaf in &self.leaves {
-            bits[below(*leaf, self.depth).0] = true;
+            bits[leftmost(*leaf, self.depth)] = true;
         }
         bits
     }
@@ -216,9 +219,10 @@ impl Panel {
         if depth(node) == self.depth {
             return Err(AT_GREATEST_DEPTH);
         }
+        // what the old cuts ask for is there: they are good
         let mut cuts = self.cuts.clone();
-        cuts.insert(node);
-        *self = Panel::of(self.depth, closed(&cuts));
+        add(&mut cuts, node);
+        *self = Panel::of(self.depth, cuts);
         Ok(())
     }
 

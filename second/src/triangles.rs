@@ -8,9 +8,11 @@ use std::sync::OnceLock;
 
 use crate::{Answer, NO_SUCH_NODE};
 
-/// "D is the panel's greatest depth, 3 to 14"
+/// "D is the panel's greatest depth", from 3 up to 17.
 pub const LEAST_DEPTH: u32 = 3;
-pub const GREATEST_DEPTH: u32 = 14;
+pub const GREATEST_DEPTH: u32 = 17;
+/// "Node numbers without a panel go to 262,143."
+pub const LAST_NODE: u32 = 262_143;
 
 pub type Point = [u32; 2];
 /// The corners A, B, C, in that order.
@@ -54,7 +56,7 @@ fn product(x: &Matrix, y: &Matrix) -> Matrix {
     z
 }
 
-/// The triangle of a node of depth 1 to 14. A corner that is no whole number stops the program.
+/// The triangle of a node from 2 to the last. A corner that is no whole number stops the program.
 fn triangle(node: u32) -> Triangle {
     let mut path = Vec::new();
     let mut n = node;
@@ -91,11 +93,11 @@ fn side(x: Point, y: Point) -> [Point; 2] {
 /// The neighbours of every node of one depth, from 2^depth on.
 fn find_neighbours(depth: u32) -> Vec<Neighbours> {
     let nodes = 1u32 << depth..2u32 << depth;
+    let triangles: Vec<(u32, Triangle)> = nodes.map(|node| (node, triangle(node))).collect();
     let mut owners: HashMap<[Point; 2], Vec<u32>> = HashMap::new();
-    for node in nodes.clone() {
-        let [a, b, c] = triangle(node);
-        for s in [side(a, b), side(b, c), side(a, c)] {
-            owners.entry(s).or_default().push(node);
+    for (node, [a, b, c]) in &triangles {
+        for s in [side(*a, *b), side(*b, *c), side(*a, *c)] {
+            owners.entry(s).or_default().push(*node);
         }
     }
     let across = |node: u32, s: [Point; 2]| match owners[&s].as_slice() {
@@ -109,19 +111,15 @@ fn find_neighbours(depth: u32) -> Vec<Neighbours> {
         }
         more => panic!("one side of {} triangles", more.len()),
     };
-    nodes
-        .map(|node| {
-            let [a, b, c] = triangle(node);
-            Neighbours {
-                left: across(node, side(b, c)),
-                right: across(node, side(a, b)),
-                edge: across(node, side(a, c)),
-            }
-        })
-        .collect()
+    let around = |(node, [a, b, c]): (u32, Triangle)| Neighbours {
+        left: across(node, side(b, c)),
+        right: across(node, side(a, b)),
+        edge: across(node, side(a, c)),
+    };
+    triangles.into_iter().map(around).collect()
 }
 
-/// The neighbours of a node of depth 1 to 14: left shares the side B–C, right A–B, edge A–C.
+/// The neighbours of a node from 2 to the last: left shares the side B–C, right A–B, edge A–C.
 pub fn neighbours_of(node: u32) -> Neighbours {
     static TABLES: [OnceLock<Vec<Neighbours>>; GREATEST_DEPTH as usize + 1] =
         [const { OnceLock::new() }; GREATEST_DEPTH as usize + 1];
@@ -131,19 +129,19 @@ pub fn neighbours_of(node: u32) -> Neighbours {
 }
 
 fn known(node: u32) -> Answer<u32> {
-    if (2..=32_767).contains(&node) {
+    if (2..=LAST_NODE).contains(&node) {
         Ok(node)
     } else {
         Err(NO_SUCH_NODE)
     }
 }
 
-/// Left, right and edge of a node from 2 to 32,767.
+/// Left, right and edge of a node from 2 to the last, or 3.
 pub fn neighbours(node: u32) -> Answer<Neighbours> {
     known(node).map(neighbours_of)
 }
 
-/// The corners of a node from 2 to 32,767.
+/// The corners of a node from 2 to the last, or 3.
 pub fn corners(node: u32) -> Answer<Triangle> {
     known(node).map(triangle)
 }

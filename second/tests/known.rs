@@ -1,11 +1,11 @@
-//! The values that document 01 gives, and its laws where they can be tried on every node. Those of its known panels that it does not
-//! mark `[M]` are in compare/src/known.rs, which asks both programs.
+//! The values that document 01 gives, with the limits of request W5, and its laws where they can be tried on every node. Those of its
+//! known panels that it does not mark `[M]` are in compare/src/known.rs, which asks both programs.
 
 use std::collections::BTreeSet;
 
 use second::calls::*;
 use second::panel::{closed, good, with_right_sums, Panel};
-use second::triangles::{depth, neighbours_of, Neighbours};
+use second::triangles::{depth, neighbours_of, Neighbours, GREATEST_DEPTH, LAST_NODE};
 
 fn opened(depth: u32) -> Vec<u8> {
     let mut bytes = vec![0xEE; 1 << (depth - 1)];
@@ -75,7 +75,7 @@ fn refusals() {
         bytes[0] += 1 << spare;
         assert_eq!(judge(&bytes), 2);
     }
-    for depth in [0, 2, 4, 15, 35] {
+    for depth in [0, 2, 4, 17, 18, 35, u32::MAX] {
         let mut bytes = five.clone();
         assert_eq!(open(&mut bytes, depth), 1);
         assert_eq!(bytes, five);
@@ -83,9 +83,41 @@ fn refusals() {
 }
 
 #[test]
+fn depths_from_3_to_17() {
+    for (depth, length) in [(3, 4), (14, 8_192), (15, 16_384), (16, 32_768), (17, 65_536)] {
+        let mut bytes = vec![0; length];
+        assert_eq!(judge(&bytes), 2);
+        assert_eq!(open(&mut bytes, depth), 0);
+        assert_eq!(leaves(&bytes), [2, 3]);
+    }
+    for (depth, length) in [(2, 2), (15, 16_383), (17, 65_535), (17, 65_537), (18, 131_072), (18, 65_536)] {
+        assert_eq!(open(&mut vec![0; length], depth), 1);
+    }
+    for length in [0, 2, 3, 5, 16_383, 65_535, 65_537, 131_072] {
+        assert_eq!(judge(&vec![0; length]), 1);
+    }
+}
+
+#[test]
+fn nodes_to_262_143() {
+    assert_eq!(neighbours(262_143), (0, Neighbours { left: 0, right: 262_142, edge: 131_072 }));
+    assert_eq!(corners(262_143), (0, [[1, 255], [1, 256], [0, 256]]));
+    for node in [0, 1, 262_144, u32::MAX] {
+        assert_eq!(neighbours(node), (3, Neighbours::default()));
+        assert_eq!(corners(node), (3, [[0; 2]; 3]));
+    }
+    let fresh = opened(17);
+    assert_eq!((number_of(&fresh, 262_143), number_of(&fresh, 262_144)), ((4, 0), (3, 0)));
+    let finest = Panel::holding(17, &BTreeSet::from([131_071])).bytes();
+    assert_eq!(split(&mut finest.clone(), 262_143), 5);
+    assert_eq!(merge(&mut finest.clone(), 262_143), 0);
+}
+
+#[test]
 fn leaf_bits_fill_whole_bytes() {
     assert_eq!(leaf_bits(&opened(3)), (0, (3, 1)));
     assert_eq!(leaf_bits(&opened(14)), (0, (6144, 2048)));
+    assert_eq!(leaf_bits(&opened(17)), (0, (49_152, 16_384)));
 }
 
 #[test]
@@ -107,15 +139,11 @@ fn known_neighbours() {
     is(8, 9, 0, 15);
     is(10, 11, 0, 9);
     is(17, 30, 16, 18);
-    for node in [0, 1, 32_768, u32::MAX] {
-        assert_eq!(neighbours(node), (3, Neighbours::default()));
-        assert_eq!(corners(node), (3, [[0; 2]; 3]));
-    }
 }
 
 #[test]
 fn shared_sides_follow_the_rules() {
-    for n in 2..16_384 {
+    for n in 2..1 << GREATEST_DEPTH {
         let Neighbours { left, right, edge } = neighbours_of(n);
         let right_child = |x: u32| if x == 0 { 0 } else { 2 * x + 1 };
         let of_left = Neighbours { left: 2 * n + 1, right: right_child(edge), edge: right_child(right) };
@@ -134,7 +162,7 @@ fn known_corners() {
 
 #[test]
 fn areas() {
-    for node in 2..32_768 {
+    for node in 2..=LAST_NODE {
         let [a, b, c] = corners(node).1.map(|p| p.map(i64::from));
         let twice = (b[0] - a[0]) * (c[1] - a[1]) - (c[0] - a[0]) * (b[1] - a[1]);
         assert_eq!(twice.abs(), 1 << (17 - depth(node)));

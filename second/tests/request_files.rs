@@ -21,13 +21,21 @@ fn nothing_for_nothing() {
 
 #[test]
 fn before_an_open() {
-    assert_eq!(printed("split 2\nmerge 2\nopen 15\nopen 2\n"), "1 1\n2 1\n3 1\n4 1\n");
+    assert_eq!(printed("split 2\nmerge 2\nopen 18\nopen 2\nopen 4294967295\n"), "1 1\n2 1\n3 1\n4 1\n5 1\n");
 }
 
 #[test]
 fn a_refused_open_keeps_the_panel() {
     assert_eq!(printed("open 3\nsplit 2\nopen 99"), "1 0\n2 0\n3 1\n0 4\n1 5\n2 6\n3 7\n");
     assert_eq!(printed("open 3\nsplit 2\nopen 5"), "1 0\n2 0\n3 0\n0 2\n1 3\n");
+}
+
+#[test]
+fn the_finest_the_coarsest_and_back() {
+    let there = "open 17\nsplit 2\nopen 3\nsplit 8\n";
+    assert_eq!(printed(there), "1 0\n2 0\n3 0\n4 4\n0 2\n1 3\n");
+    let back = format!("{there}split 2\nopen 17\nsplit 4\nmerge 262143\nmerge 262144\n");
+    assert_eq!(printed(&back), "1 0\n2 0\n3 0\n4 4\n5 0\n6 0\n7 4\n8 4\n9 3\n0 2\n1 3\n");
 }
 
 #[test]
@@ -41,9 +49,11 @@ fn the_limit() {
     let many = |n: usize| records_of_text(&"open 3\n".repeat(n)).unwrap();
     assert_eq!(run(&many(4096)).answers.len(), 4096);
     assert_eq!(run(&many(4097)).answers.len(), 4096);
-    assert_eq!(run(&[many(4096), vec![7]].concat()).answers.len(), 4096);
-    let short = run(&[many(4095), vec![7]].concat()).answers;
-    assert_eq!((short.len(), short[4095]), (4096, 9));
+    for tail in [vec![7], vec![0; 7]] {
+        let answers = |whole: usize| run(&[many(whole), tail.clone()].concat()).answers;
+        assert_eq!((answers(4096).len(), answers(4096)[4095]), (4096, 0));
+        assert_eq!((answers(4095).len(), answers(4095)[4095]), (4096, 9));
+    }
 }
 
 #[test]

@@ -1,6 +1,6 @@
 //! A panel that a scanner looks at, cut into triangles: the proved calls of this repository, for Rust.
 //!
-//! A panel is bytes that you own, 4 at depth 3 to 8,192 at depth 14; [`Panel`] lends them to the calls. Every call has an answer
+//! A panel is bytes that you own, 4 at depth 3 to 65,536 at depth 17; [`Panel`] lends them to the calls. Every call has an answer
 //! whatever the bytes are, damaged ones too: what you asked for, or a [`Refusal`], and then no byte has changed. There is nothing to set
 //! up, and nothing that can be called in the wrong order. What the calls promise is proved, see docs/PROMISES.md; this crate only
 //! gives it Rust's types.
@@ -40,6 +40,9 @@ pub mod exports;
 mod refusal;
 
 pub use refusal::Refusal;
+
+/// The depth of the finest panel. The coarsest is of depth 3; a panel of depth D has 2^(D−1) bytes.
+pub const GREATEST_DEPTH: u32 = 17;
 
 /// A node's number, which says where its triangle is: node 1 is the whole panel, node k has the children 2k and 2k + 1.
 #[derive(Clone, Copy, Debug, PartialEq, Eq, Hash)]
@@ -83,10 +86,10 @@ impl Node {
 pub struct Panel<B>(B);
 
 impl Panel<Vec<u8>> {
-    /// A fresh panel of a depth from 3 to 14, in bytes of its own, with the leaves 2 and 3. Refused: 1.
+    /// A fresh panel of a depth from 3 to [`GREATEST_DEPTH`], in bytes of its own, with the leaves 2 and 3. Refused: 1.
     pub fn fresh(depth: u32) -> Result<Self, Refusal> {
-        // no length fits any other depth, and the call says so
-        let length = if (3..=14).contains(&depth) { 1 << (depth - 1) } else { 0 };
+        // any other depth the call refuses, whatever the length
+        let length = if (1..=GREATEST_DEPTH).contains(&depth) { 1 << (depth - 1) } else { 0 };
         let mut panel = Panel(vec![0; length]);
         panel.open(depth)?;
         Ok(panel)

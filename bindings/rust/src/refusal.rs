@@ -6,11 +6,11 @@ use std::fmt;
 #[derive(Clone, Copy, Debug, PartialEq, Eq, PartialOrd, Ord, Hash)]
 #[repr(u32)]
 pub enum Refusal {
-    /// The length isn't 2^(D−1) bytes for a depth D of 3 to 14; on open, also a depth that is out of range or doesn't fit the length.
+    /// The length isn't 2^(D−1) bytes for a depth D of 3 to 17; on open, also a depth that is out of range or doesn't fit the length.
     WrongLength = 1,
     /// The length fits, the panel isn't good.
     NotGood = 2,
-    /// The node is below 2, or above 2^(D+1)−1 (above 32,767 for calls that take no panel).
+    /// The node is below 2, or above 2^(D+1)−1 (above 262,143 for calls that take no panel).
     NoSuchNode = 3,
     /// The node is in range but isn't a leaf.
     NotLeaf = 4,

@@ -1,6 +1,6 @@
 //! The crate's own part: that numbers become the right types, and that a panel may stand over bytes of any owner.
 
-use jolpibhar::{LeafNumber, Node, Panel, Refusal};
+use jolpibhar::{LeafNumber, Neighbours, Node, Panel, Refusal, GREATEST_DEPTH};
 
 /// The panel of depth 3 with the leaves 8, 9, 5, 6, 7.
 fn five() -> Panel<Vec<u8>> {
@@ -12,17 +12,45 @@ fn five() -> Panel<Vec<u8>> {
 
 #[test]
 fn every_refusal_of_a_call() {
-    assert_eq!(Panel::fresh(15).unwrap_err(), Refusal::WrongLength);
+    assert_eq!(Panel::fresh(18).unwrap_err(), Refusal::WrongLength);
     assert_eq!(Panel::over([0; 5]).judge(), Err(Refusal::WrongLength));
     assert_eq!(Panel::over([0; 4]).judge(), Err(Refusal::NotGood));
     assert_eq!(five().number_of(Node(16)), Err(Refusal::NoSuchNode));
     assert_eq!(Node(1).neighbours(), Err(Refusal::NoSuchNode));
-    assert_eq!(Node(32_768).corners(), Err(Refusal::NoSuchNode));
+    assert_eq!(Node(262_144).corners(), Err(Refusal::NoSuchNode));
     assert_eq!(five().number_of(Node(4)), Err(Refusal::NotLeaf));
     assert_eq!(five().split(Node(8)), Err(Refusal::AtGreatestDepth));
     assert_eq!(Panel::fresh(3).unwrap().merge(Node(2)), Err(Refusal::AtDepthOne));
     assert_eq!(five().merge(Node(5)), Err(Refusal::LeavesMissing));
     assert_eq!(five().leaf_at(LeafNumber(5)), Err(Refusal::NoSuchNumber));
+}
+
+#[test]
+fn depths_from_3_to_17() {
+    for depth in 3..=GREATEST_DEPTH {
+        let panel = Panel::fresh(depth).unwrap();
+        assert_eq!((panel.bytes().len(), panel.count()), (1 << (depth - 1), Ok(2)));
+    }
+    assert_eq!(Panel::fresh(15).unwrap().into_bytes().len(), 16_384);
+    assert_eq!(Panel::fresh(17).unwrap().into_bytes().len(), 65_536);
+    for depth in [0, 1, 2, 18, 19, 33, u32::MAX] {
+        assert_eq!(Panel::fresh(depth).unwrap_err(), Refusal::WrongLength);
+    }
+    let mut beyond = Panel::over(vec![0; 131_072]);
+    assert_eq!(beyond.open(GREATEST_DEPTH + 1), Err(Refusal::WrongLength));
+    assert_eq!(beyond.judge(), Err(Refusal::WrongLength));
+}
+
+#[test]
+fn nodes_to_262_143() {
+    let last = Node(262_143);
+    let (left, right, edge) = (None, Some(Node(262_142)), Some(Node(131_072)));
+    assert_eq!(last.neighbours(), Ok(Neighbours { left, right, edge }));
+    assert_eq!(last.corners(), Ok([[1, 255], [1, 256], [0, 256]]));
+    assert_eq!(Node(262_144).neighbours(), Err(Refusal::NoSuchNode));
+    let fresh = Panel::fresh(17).unwrap();
+    assert_eq!(fresh.number_of(last), Err(Refusal::NotLeaf));
+    assert_eq!(fresh.number_of(Node(262_144)), Err(Refusal::NoSuchNode));
 }
 
 #[test]
@@ -52,7 +80,7 @@ fn leaf_bits_are_the_panels_own() {
     let panel = five();
     assert_eq!(panel.leaf_bits().unwrap().as_ptr_range(), panel.bytes()[3..].as_ptr_range());
     assert_eq!(Panel::over([0; 8]).leaf_bits(), Err(Refusal::NotGood));
-    assert_eq!(Panel::fresh(14).unwrap().leaf_bits().unwrap().len(), 2048);
+    assert_eq!(Panel::fresh(17).unwrap().leaf_bits().unwrap().len(), 16_384);
 }
 
 #[test]
