@@ -12,10 +12,15 @@ use Rattle.io.specs.Counts.{Counts}
 use Rattle.requests.specs.Requests.{Part, Ended}
 use Rattle.requests.proofs.Keeping.{ended-holds}
 use Rattle.requests.proofs.Parts.{Reading, reading-room}
+use Rattle.printing.specs.Printing.{Lines}
 use Rattle.printing.specs.inner.Showing.{Shown}
 
 pub ended-shown : {given t : List ℕ} {D : ℕ} → Ended given D t → Shown given D t
 ended-shown e = record { few = omega (arith, e .all); holds = ended-holds e }
+
+-- the lines of a block begin where those handed out ended
+pub lines-from : {given b t : List ℕ} {D i j to : ℕ} → i ≡ j → Lines given D b i to t → Lines given D b j to t
+lines-from {given} {b} {t} {D} {to = to} e l = subst (λ k. Lines given D b k to t) e l
 
 module _ {p b out t after : List ℕ} {got full n m C D : ℕ} (q : Part p (ltb got full) n C b out m D t after) where
   pub last-part : got < full → Part p true n C b out m D t after

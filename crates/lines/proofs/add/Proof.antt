@@ -1,80 +1,63 @@
 -- Each number has at most 20 digits, so its part fits, and each part stands behind the ones before it.
+use Prim.Native.Nat.{_≤_}
 use native.Mathlib.Omega.{arith}
-use Rattle.lines.proofs.Texts.{digits-20, line-added}
 use borrow.Author.Needs.{needs}
+use Rattle.lines.proofs.Texts.{digits-20, line-added}
 use Rattle.lines.proofs.add.Statement.{statement}
 use Rattle.lines.proofs.add.Tie as tie
-use Rattle.lines.proofs.add.Reads as reads
-use Rattle.lines.proofs.add.Lts as lts
-use Rattle.io.proofs.decimal.Reads as decimal-reads
-use Rattle.lines.proofs.put.Reads as put-reads
 
-decimal-requires : tie.Need-decimal-requires
-decimal-requires c κs = search needs
+module _ (c : tie.After-decimal2) where
+  first-fits : c .before .before .decimal .result ≤ 20
+  first-fits = digits-20 (c .before .before .decimal .ensures .1 .0) (omega (arith, c .before .before .before .before .before .fits .a))
 
-decimal-requires-2 : tie.Need-decimal-requires-2
-decimal-requires-2 c κs = search needs
-
-array-share-prefix-first : tie.Need-array-share-prefix-first
-array-share-prefix-first c = search needs
-
-slice-aggregate-put : tie.Need-slice-aggregate-put
-slice-aggregate-put c = search needs
+  second-fits : c .decimal2 .result ≤ 20
+  second-fits = digits-20 (c .decimal2 .ensures .1 .0) (omega (arith, c .before .before .before .before .before .fits .b))
 
 put-requires : tie.Need-put-requires
-put-requires c κs = omega (arith, c .before .before .before .before .before .before .before .pre, digits-20 (c .before .before .before .before .decimal .ensures .1 .0) (omega (arith, c .before .before .before .before .before .before .before .fits .a)))
-
-slice-aggregate-put-2 : tie.Need-slice-aggregate-put-2
-slice-aggregate-put-2 c = search needs
+put-requires c κs = let d = c .before .before in omega (arith, first-fits d, d .before .before .before .before .before .pre)
 
 put-requires-2 : tie.Need-put-requires-2
-put-requires-2 c κs = omega (arith, c .before .before .before .before .before .before .before .before .before .before .before .before .pre, digits-20 (c .before .before .before .before .before .before .before .before .before .decimal .ensures .1 .0) (omega (arith, c .before .before .before .before .before .before .before .before .before .before .before .before .fits .a)))
-
-array-share-prefix-second : tie.Need-array-share-prefix-second
-array-share-prefix-second c = search needs
-
-slice-aggregate-put-3 : tie.Need-slice-aggregate-put-3
-slice-aggregate-put-3 c = search needs
+put-requires-2 c κs = let d = c .before .before .before .before .before .before .before in omega (arith, first-fits d, d .before .before .before .before .before .pre)
 
 put-requires-3 : tie.Need-put-requires-3
-put-requires-3 c κs = omega (arith, c .before .before .before .before .before .before .before .before .before .before .before .before .before .before .before .before .before .pre, digits-20 (c .before .before .before .before .before .before .before .before .before .before .before .before .before .before .decimal .ensures .1 .0) (omega (arith, c .before .before .before .before .before .before .before .before .before .before .before .before .before .before .before .before .before .fits .a)), digits-20 (c .before .before .before .before .before .before .before .before .before .before .before .before .decimal2 .ensures .1 .0) (omega (arith, c .before .before .before .before .before .before .before .before .before .before .before .before .before .before .before .before .before .fits .b)))
-
-slice-aggregate-put-4 : tie.Need-slice-aggregate-put-4
-slice-aggregate-put-4 c = search needs
+put-requires-3 c κs = let d = c .before .before .before .before .before .before .before .before .before .before .before .before in omega (arith, first-fits d, second-fits d, d .before .before .before .before .before .pre)
 
 put-requires-4 : tie.Need-put-requires-4
-put-requires-4 c κs = omega (arith, c .before .before .before .before .before .before .before .before .before .before .before .before .before .before .before .before .before .before .before .before .before .before .pre, digits-20 (c .before .before .before .before .before .before .before .before .before .before .before .before .before .before .before .before .before .before .before .decimal .ensures .1 .0) (omega (arith, c .before .before .before .before .before .before .before .before .before .before .before .before .before .before .before .before .before .before .before .before .before .before .fits .a)), digits-20 (c .before .before .before .before .before .before .before .before .before .before .before .before .before .before .before .before .before .decimal2 .ensures .1 .0) (omega (arith, c .before .before .before .before .before .before .before .before .before .before .before .before .before .before .before .before .before .before .before .before .before .before .fits .b)))
-
-same-length : tie.Need-same-length
-same-length c = search needs
+put-requires-4 c κs = let d = c .before .before .before .before .before .before .before .before .before .before .before .before .before .before .before .before .before in omega (arith, first-fits d, second-fits d, d .before .before .before .before .before .pre)
 
 returns : tie.Need-returns
-returns c = (
-      omega (arith, digits-20 (c .before .before .before .before .before .before .before .before .before .before .before .before .before .before .before .before .before .before .before .before .before .before .decimal .ensures .1 .0) (omega (arith, c .before .before .before .before .before .before .before .before .before .before .before .before .before .before .before .before .before .before .before .before .before .before .before .before .before .fits .a)), digits-20 (c .before .before .before .before .before .before .before .before .before .before .before .before .before .before .before .before .before .before .before .before .decimal2 .ensures .1 .0) (omega (arith, c .before .before .before .before .before .before .before .before .before .before .before .before .before .before .before .before .before .before .before .before .before .before .before .before .before .fits .b))),
+returns c =
+    let s = c .before .before in
+    let r = s .before .before .before .before .before in
+    let q = r .before .before .before .before .before in
+    let p = q .before .before .before .before .before in
+    let d = p .before .before .before in
+    let e = d .before .before in (
+      omega (arith, first-fits d, second-fits d),
       line-added
-          record { places = c .before .before .before .before .before .before .before .before .before .before .before .before .before .before .before .before .before .before .before .before .before .before .decimal .result; fewest = c .before .before .before .before .before .before .before .before .before .before .before .before .before .before .before .before .before .before .before .before .before .before .decimal .ensures .1 .0; text = c .before .before .before .before .before .before .before .before .before .before .before .before .before .before .before .before .before .before .before .before .before .before .decimal .ensures .1 .1 }
-          record { places = c .before .before .before .before .before .before .before .before .before .before .before .before .before .before .before .before .before .before .before .before .decimal2 .result; fewest = c .before .before .before .before .before .before .before .before .before .before .before .before .before .before .before .before .before .before .before .before .decimal2 .ensures .1 .0; text = c .before .before .before .before .before .before .before .before .before .before .before .before .before .before .before .before .before .before .before .before .decimal2 .ensures .1 .1 }
-          (c .before .before .before .before .before .before .before .before .before .before .before .before .before .before .before .before .before .put .ensures .1)
-          (c .before .before .before .before .before .before .before .before .before .before .before .before .put2 .ensures .1)
-          (c .before .before .before .before .before .before .before .put3 .ensures .1)
-          (c .before .before .put4 .ensures .1),
+          record { places = e .decimal .result; fewest = e .decimal .ensures .1 .0; text = e .decimal .ensures .1 .1 }
+          record { places = d .decimal2 .result; fewest = d .decimal2 .ensures .1 .0; text = d .decimal2 .ensures .1 .1 }
+          (p .put .ensures .1)
+          (q .put2 .ensures .1)
+          (r .put3 .ensures .1)
+          (s .put4 .ensures .1),
     )
 
 pub add-spec : {M : Type 1} → statement M
 add-spec =
     tie.close
     (tie.spec
-    decimal-requires
-    decimal-requires-2
-    array-share-prefix-first
-    slice-aggregate-put
+    (λ c κs. search needs)
+    (λ c κs. search needs)
+    (λ c. search needs)
+    (λ c. search needs)
     put-requires
-    slice-aggregate-put-2
+    (λ c. search needs)
     put-requires-2
-    array-share-prefix-second
-    slice-aggregate-put-3
+    (λ c. search needs)
+    (λ c. search needs)
     put-requires-3
-    slice-aggregate-put-4
+    (λ c. search needs)
     put-requires-4
-    same-length
+    (λ c. search needs)
     returns)
