@@ -3,15 +3,17 @@
 -- verdict on each function and no theorem here.
 use mathlib.Core.Path.{_≡_, refl, sym, ap, ap₂, _∙_}
 use mathlib.Core.Logic.{_≢_, _⊎_, _↔_}
+use mathlib.Core.Bool.{Bool, true}
 use mathlib.Core.List.{List, [], _∷_, _++_}
-use Prim.Native.Nat.{ℕ, zero, suc, _+_, _-_, _*_, _/_, _^_, _≤_, _<_}
+use Prim.Native.Nat.{ℕ, zero, suc, _+_, _-_, _*_, _/_, _^_, _≤_, _<_, min}
 use native.Mathlib.Omega.{arith}
+use lib.ListN.{length}
 use Rattle.bits.specs.Bits.{Bytes}
 use Rattle.nodes.specs.declared.triples.Triple.{Triple}
 use Rattle.nodes.specs.Depth.{depthOf}
 use Rattle.nodes.specs.Limits.{KnownNode}
 use Rattle.nodes.specs.Neighbours.{none, neighboursOf, edge}
-use Rattle.triangles.specs.Corners.{Triangle, InPanel, cornersOf, twiceArea}
+use Rattle.triangles.specs.Corners.{Triangle, InPanel, Exact, cornersOf, twiceArea}
 use Rattle.tables.specs.Table.{Row, unless, Outcome}
 use Rattle.node_calls.specs.Calls.{nodeRows, Neighbours, noCorners, Corners}
 use Rattle.nodes.proofs.Depths.{depth-le}
@@ -22,6 +24,7 @@ use Rattle.triangles.proofs.Sides.{Across, Beside, edge-across, left-beside}
 use Rattle.triangles.proofs.Borders.{Border, border}
 use Rattle.triangles.proofs.Cornering.{in-panel}
 use Rattle.triangles.proofs.Areas.{area-is}
+use Rattle.triangles.proofs.Midpoints.{whole-corners}
 use Rattle.node_calls.proofs.Outcomes.{neighbours-one, corners-one}
 use Rattle.sums.specs.Rank.{rank}
 use Rattle.words.specs.Words.{word, leafBit}
@@ -34,16 +37,19 @@ use Rattle.panel.proofs.Lengths.{fits-small}
 use Rattle.panel.proofs.GoodPanels.{leaf-in-range, leaf-areas}
 use Rattle.panel.proofs.SameBytes.{bytes-same}
 use Rattle.panel.proofs.Once.{judge-one, count-one, leaf-bits-one, leaf-at-one, number-of-one, open-one, split-one, merge-one}
-use Rattle.records.specs.Records.{Fine}
+use Rattle.records.specs.Records.{Fine, mostRecords}
 use Rattle.steps.specs.Steps.{Called, Step}
 use Rattle.steps.specs.Steps.Called.{opened, refused, split as splits, merge as merges}
 use Rattle.steps.specs.Steps.Step.{bad, call}
 use Rattle.steps.specs.Holding.{Holds}
 use Rattle.steps.proofs.Keeping.{step-refused}
 use Rattle.steps.proofs.Once.{step-one}
-use Rattle.requests.specs.Requests.{Run}
-use Rattle.requests.proofs.Keeping.{run-holds}
-use Rattle.requests.proofs.Once.{run-one}
+use Rattle.requests.specs.Requests.{Part, Run, Parts, Ended}
+use Rattle.requests.proofs.Keeping.{run-holds, ended-holds}
+use Rattle.requests.proofs.Once.{part-one, run-one}
+use Rattle.requests.proofs.Parts.{parts-one}
+use Rattle.printing.specs.Printing.{Lines}
+use Rattle.printing.proofs.Once.{lines-one}
 use Rattle.evidence.specs.Known.{Every, knownCases}
 use Rattle.tables.specs.Exactly.{Exactly}
 use Rattle.tables.proofs.Exactness.{Rising, refused-exactly, outcome-under}
@@ -84,11 +90,18 @@ pub record Demand1 : Type 0 where
   pub merge : (s : List ℕ) (k : ℕ) → Settled (leafRows s k ++ unless 6 (1 < depthOf k) ∷ unless 7 (Together s k) ∷ []) (List ℕ) Bytes s (Merge s k)
   pub neighbours : (n : ℕ) → Settled (nodeRows n) Triple (Any Triple) none (Neighbours n)
   pub corners : (n : ℕ) → Settled (nodeRows n) Triangle (Any Triangle) noCorners (Corners n)
-  -- one record: 9 exactly where it is bad, and else its call's answer; a refused one; a run of records
+  -- one record: 9 exactly where it is bad, and else its call's answer; a refused one; a part of the input, and a run of records
   pub step : {r b u v : List ℕ} {D n m E F : ℕ} → Bytes u → Bytes v → Step r D b n E u → Step r D b m F v → (n ≡ m) × (E ≡ F) × (u ≡ v)
   pub step-bad : {r b u : List ℕ} {D n E : ℕ} → Step r D b n E u → (n ≡ 9) ↔ (Fine r → ⊥)
   pub step-keeps : {r b u : List ℕ} {D n E : ℕ} → Step r D b n E u → n ≢ 0 → (E ≡ D) × (u ≡ b)
+  pub part : {p b out u v x y : List ℕ} {ends : Bool} {before C n m D E : ℕ} → before ≤ min mostRecords (length out)
+      → Part p ends before C b out n D u x → Part p ends before C b out m E v y → (n ≡ m) × (D ≡ E) × (u ≡ v) × (x ≡ y)
   pub run : {rs b out u v x y : List ℕ} {n m D E : ℕ} → Run rs b out n D u x → Run rs b out m E v y → (n ≡ m) × (D ≡ E) × (u ≡ v) × (x ≡ y)
+  -- the parts of an input in turn, however they are cut between records, come to what the run of the whole does
+  pub parts : {b out rs p t u given x v y : List ℕ} {n m k C D E : ℕ} → Parts b out rs n C t given → Part p true n C t given m D u x
+      → Run (rs ++ p) b out k E v y → (m ≡ k) × (D ≡ E) × (u ≡ v) × (x ≡ y)
+  -- what a run came to is printed in one way
+  pub printed : {given t x y : List ℕ} {D i j k : ℕ} → Ended given D t → Lines given D t i j x → Lines given D t i k y → j ≡ k → x ≡ y
 
 -- no call answers 9
 called-under : {k D c n E : ℕ} {b u : List ℕ} → Called k D b c n E u → n < 9
@@ -120,7 +133,10 @@ demand-1 = record {
   step = step-one;
   step-bad = nine-exactly;
   step-keeps = step-refused;
+  part = part-one;
   run = run-one;
+  parts = parts-one;
+  printed = λ e. lines-one (ended-holds e);
 }
 
 -- ---- demand 2: numbers name leaves both ways, and the bytes are the paper's
@@ -151,6 +167,8 @@ pub record Placed (n : ℕ) : Type 0 where
   pub at-border : Border n
   pub inside : InPanel (cornersOf n)
   pub area : twiceArea (cornersOf n) ≡ 2 ^ (17 - depthOf n)
+  -- its corners are whole numbers
+  pub whole : 2 ≤ n / 2 → Exact (cornersOf (n / 2))
 
 pub record Demand2 : Type 0 where
   pub panel : (s : List ℕ) → Good s → Read s
@@ -165,7 +183,7 @@ total-same f g (suc c) e = ap₂ (λ x y. x + y) (total-same f g c (λ i h. e i 
 leaf-area : (s : List ℕ) → Good s → (i k : ℕ) (t : Triangle) → LeafAt s i 0 k → Corners k 0 t → twiceArea t ≡ 2 ^ (17 - depthOf k)
 leaf-area s G i k t a c =
     let l = a .done refl .leaf in
-    ap twiceArea (c .done refl) ∙ area-is k (l .low) (omega (arith, fits-small (G .fits), depth-le k (deepOf s) (leaf-in-range s G k l .high)))
+    ap twiceArea (c .done refl .corners) ∙ area-is k (l .low) (omega (arith, fits-small (G .fits), depth-le k (deepOf s) (leaf-in-range s G k l .high)))
 
 panel-read : (s : List ℕ) → Good s → Read s
 panel-read s G = record {
@@ -193,6 +211,7 @@ node-placed n k =
       at-border = border n (k .low) d;
       inside = in-panel n (k .low);
       area = area-is n (k .low) d;
+      whole = whole-corners n d;
     }
 
 pub demand-2 : Demand2

@@ -9,11 +9,10 @@ use lib.Dec.{leb, ltb, eqb}
 use borrow.Author.Tests.{leb-true, ltb-true, eqb-true}
 use Rattle.bits.specs.Bits.{run}
 use Rattle.nodes.specs.Depth.{depthOf, depthIn}
-use Rattle.nodes.specs.Limits.{greatestDepth}
+use Rattle.nodes.specs.Limits.{greatestDepth, KnownNode}
 use Rattle.nodes.specs.Neighbours.{neighboursOf, neighboursAt}
 use Rattle.triangles.specs.Corners.{cornersOf, cornersAt}
-use Rattle.tables.specs.Table.{Answers}
-use Rattle.node_calls.specs.Calls.{nodeRows}
+use Rattle.node_calls.proofs.Outcomes.{known-node, known-corners}
 use Rattle.tables.proofs.Tables.{is-done}
 use Rattle.sums.specs.Rank.{rank}
 use Rattle.words.specs.Words.{word, leafBit}
@@ -28,10 +27,9 @@ use Rattle.evidence.proofs.Calling.{leavesIn, leaves-shown, freshIn, fr
 knownNode : ℕ → Bool
 knownNode n = leb 2 n && ltb n (2 ^ (greatestDepth + 1))
 
-known-node : (n : ℕ) → So (knownNode n) → Answers (nodeRows n) 0
+is-known : (n : ℕ) → So (knownNode n) → KnownNode n
 unfolding knownNode
-known-node n e =
-    let (low, high) = (leb-true 2 n and ltb-true n (2 ^ (greatestDepth + 1))) e in inr (record { low = low; high = high }, refl)
+is-known n e = let (low, high) = (leb-true 2 n and ltb-true n (2 ^ (greatestDepth + 1))) e in record { low = low; high = high }
 
 -- any bytes of the fresh panel's length are opened so
 opened-any : {D : ℕ} {t : List ℕ} → Fresh D t → (s : List ℕ) → length s ≡ length t → Open s D 0 t
@@ -59,10 +57,10 @@ sound (opens D t ks) e =
 sound (splits s k n t ks) e = changed-shown (splitRows s k) (splitTests s k) n ks (λ S. split-tested S k) (split-shown k) e
 sound (merges s k n t ks) e = changed-shown (mergeRows s k) (mergeTests s k) n ks (λ S. merge-tested S k) (merge-shown k) e
 sound (neighbours n l r e) z =
-    let (((a, p), q), o) = (known-node n and eqb-true l (neighboursOf n .left) and eqb-true r (neighboursOf n .right) and eqb-true e (neighboursOf n .edge)) z in
-    is-done a (λ i. record { left = p i; right = q i; edge = o i })
+    let (((a, p), q), o) = (is-known n and eqb-true l (neighboursOf n .left) and eqb-true r (neighboursOf n .right) and eqb-true e (neighboursOf n .edge)) z in
+    known-node a (λ i. record { left = p i; right = q i; edge = o i })
 sound (corners n t) e =
-    let (a, p) = (known-node n and same-list (same-list eqb-true) t (cornersOf n)) e in is-done a p
+    let (a, p) = (is-known n and same-list (same-list eqb-true) t (cornersOf n)) e in known-node a (known-corners a p)
 
 -- ---- all cases
 

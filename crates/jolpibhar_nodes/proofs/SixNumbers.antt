@@ -14,12 +14,12 @@ abbrev pub told : Triangle → Triangle
 told t =
     triangle (point (px (cornerA t)) (py (cornerA t))) (point (px (cornerB t)) (py (cornerB t))) (point (px (cornerC t)) (py (cornerC t)))
 
-abbrev Whole : ℕ → Type 0
-Whole n = told (cornersOf n) ≡ cornersOf n
+abbrev Same : ℕ → Type 0
+Same n = told (cornersOf n) ≡ cornersOf n
 
-whole : (n : ℕ) → 2 ≤ n → Whole n
-whole =
-    node-ind Whole
+told-same : (n : ℕ) → 2 ≤ n → Same n
+told-same =
+    node-ind Same
     (rw (first-triangle 2 (omega arith) (omega arith)) refl)
     (rw (first-triangle 3 (omega arith) (omega arith)) refl)
     (λ n p w. rw (left-triangle n p) (subst (λ t. told (leftTriangle t) ≡ leftTriangle t) w refl))
@@ -33,6 +33,9 @@ pub corners-told : (n a : ℕ) (t : Triangle) → Corners n a t → Corners n a 
 corners-told n a t o =
     record {
       answer = o .answer;
-      done = λ z. ap told (o .done z) ∙ whole n (low n (subst (Answers (nodeRows n)) z (o .answer)));
+      done = λ z. record {
+        corners = ap told (o .done z .corners) ∙ told-same n (low n (subst (Answers (nodeRows n)) z (o .answer)));
+        whole = o .done z .whole;
+      };
       refused = λ h. ap told (o .refused h);
     }

@@ -8,7 +8,9 @@ use Rattle.nodes.specs.Limits.{KnownNode}
 use Rattle.nodes.specs.Neighbours.{none, neighboursOf}
 use Rattle.triangles.specs.Corners.{Triangle, cornersOf}
 use Rattle.tables.specs.Table.{Outcome}
-use Rattle.node_calls.specs.Calls.{nodeRows, Neighbours, noCorners, Corners}
+use Rattle.node_calls.specs.Calls.{nodeRows, Neighbours, noCorners, Cornered, Corners}
+use Rattle.nodes.proofs.Limits.{known-shallow}
+use Rattle.triangles.proofs.Midpoints.{whole-corners}
 use Rattle.tables.proofs.Tables.{outcome-one, is-done, is-refused}
 
 module _ {n : ℕ} {A : Type 0} {Done Refused : A → Type 0} {x : A} where
@@ -23,7 +25,11 @@ pub neighbours-one : (n a b : ℕ) (t u : Triple) → Neighbours n a t → Neigh
 neighbours-one n =
     outcome-one (nodeRows n) Triple (λ x. x ≡ neighboursOf n) (λ x. x ≡ none) (λ x y p q. p ∙ sym q) (λ x y p q. p ∙ sym q)
 
+-- the corners of a node that the call takes are whole
+pub known-corners : {n : ℕ} {x : Triangle} → KnownNode n → x ≡ cornersOf n → Cornered n x
+known-corners {n} k e = record { corners = e; whole = whole-corners n (known-shallow k) }
+
 -- two outcomes of `corners` of one node are equal
 pub corners-one : (n a b : ℕ) (t u : Triangle) → Corners n a t → Corners n b u → (a ≡ b) × (t ≡ u)
 corners-one n =
-    outcome-one (nodeRows n) Triangle (λ x. x ≡ cornersOf n) (λ x. x ≡ noCorners) (λ x y p q. p ∙ sym q) (λ x y p q. p ∙ sym q)
+    outcome-one (nodeRows n) Triangle (Cornered n) (λ x. x ≡ noCorners) (λ x y p q. p .corners ∙ sym (q .corners)) (λ x y p q. p ∙ sym q)

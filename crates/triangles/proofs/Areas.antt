@@ -4,10 +4,10 @@ use Prim.Native.Nat.{ℕ, suc, _+_, _-_, _*_, _^_, _≤_}
 use native.Mathlib.Omega.{arith}
 use native.Mathlib.Nat.{mul-add, add-mul, mul-assoc, mul-left-comm, pow-suc}
 use Rattle.nodes.specs.Depth.{depthOf, depthIn}
-use Rattle.triangles.specs.Corners.{Triangle, cornerA, cornerB, cornerC, px, py, leftTriangle, rightTriangle, cornersAt, cornersOf, twiceArea}
+use Rattle.triangles.specs.Corners.{Triangle, cornerA, cornerB, cornerC, px, py, leftTriangle, rightTriangle, cornersAt, cornersOf, twiceArea, Exact}
 use Rattle.nodes.proofs.Depths.{depth-left, depth-right, node-ind}
 use Rattle.triangles.proofs.Cornering.{left-triangle, right-triangle}
-use Rattle.triangles.proofs.Midpoints.{Exact, midpoint-exact}
+use Rattle.triangles.proofs.Midpoints.{midpoint-exact}
 
 half-r : (x m a c : ℕ) → 2 * m ≡ a + c → 2 * (x * m) ≡ x * a + x * c
 half-r x m a c e = mul-left-comm 2 x m ∙ ap (λ y. x * y) e ∙ mul-add x a c

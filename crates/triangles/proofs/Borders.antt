@@ -8,11 +8,11 @@ use native.Mathlib.Nat.{add-comm}
 use native.Mathlib.Decide.{decLe}
 use Rattle.nodes.specs.Depth.{depthOf, depthIn}
 use Rattle.nodes.specs.Neighbours.{rightChild, neighboursAt, neighboursOf}
-use Rattle.triangles.specs.Corners.{Point, InSquare, InPanel, cornerA, cornerB, cornerC, px, py, cornersAt, cornersOf, OnBorder}
+use Rattle.triangles.specs.Corners.{Point, InSquare, InPanel, cornerA, cornerB, cornerC, px, py, cornersAt, cornersOf, OnBorder, Exact}
 use Rattle.nodes.proofs.Depths.{depth-left, depth-right, node-ind}
 use Rattle.nodes.proofs.Neighbouring.{right-child, left-triple, right-triple}
 use Rattle.triangles.proofs.Cornering.{left-triangle, right-triangle, in-panel}
-use Rattle.triangles.proofs.Midpoints.{Exact, midpoint-exact}
+use Rattle.triangles.proofs.Midpoints.{midpoint-exact}
 
 -- how far two coordinates are from being both 0 or both 256
 abbrev gap : ℕ → ℕ → ℕ

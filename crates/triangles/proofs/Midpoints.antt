@@ -6,8 +6,8 @@ use native.Mathlib.Omega.{arith}
 use native.Mathlib.Nat.{pow-suc, mul-assoc, add-mul, mul-comm}
 use lib.Pow.{pow-add}
 use Rattle.nodes.specs.Depth.{depthOf, depthIn}
-use Rattle.triangles.specs.Corners.{Triangle, cornerA, cornerB, cornerC, px, py, midpoint, leftTriangle, rightTriangle, cornersAt, cornersOf}
-use Rattle.nodes.proofs.Depths.{depth-left, depth-right, node-ind}
+use Rattle.triangles.specs.Corners.{Triangle, cornerA, cornerB, cornerC, px, py, midpoint, Exact, leftTriangle, rightTriangle, cornersAt, cornersOf}
+use Rattle.nodes.proofs.Depths.{depth-left, depth-right, depth-half, node-ind}
 use Rattle.triangles.proofs.Cornering.{left-triangle, right-triangle}
 
 -- ---- multiples of powers of two
@@ -111,17 +111,16 @@ on-grid = node-ind OnGrid
     (λ n p g h e. rw (left-triangle n p) (grid-left h (cornersOf n) (g (suc h) (omega (arith, depth-left n (omega arith))))))
     (λ n p g h e. rw (right-triangle n p) (grid-right h (cornersOf n) (g (suc h) (omega (arith, depth-right n (omega arith))))))
 
--- M lies exactly in the middle of A and C
-pub record Exact (t : Triangle) : Type 0 where
-  pub mx : 2 * px (midpoint (cornerA t) (cornerC t)) ≡ px (cornerA t) + px (cornerC t)
-  pub my : 2 * py (midpoint (cornerA t) (cornerC t)) ≡ py (cornerA t) + py (cornerC t)
-
 grid-exact : (h : ℕ) (t : Triangle) → Grid (suc h) t → Exact t
 grid-exact h t g = record {
   mx = multiple-exact (h / 2) _ _ (even h _ (g .gax)) (even h _ (g .gcx));
   my = multiple-exact (h / 2) _ _ (even h _ (g .gay)) (even h _ (g .gcy));
 }
 
--- every midpoint is exact down to parents of depth 16, so that all corners down to depth 17 are whole numbers
+-- every midpoint is exact down to depth 16
 pub midpoint-exact : (n : ℕ) → 2 ≤ n → depthOf n ≤ 16 → Exact (cornersOf n)
 midpoint-exact n p d = grid-exact (16 - depthOf n) (cornersOf n) (on-grid n p (suc (16 - depthOf n)) (omega arith))
+
+-- so all corners down to depth 17 are whole numbers
+pub whole-corners : (n : ℕ) → depthOf n ≤ 17 → 2 ≤ n / 2 → Exact (cornersOf (n / 2))
+whole-corners n d p = midpoint-exact (n / 2) p (omega (arith, depth-half n (omega arith)))

@@ -52,6 +52,11 @@ firstTriangle (suc b) = triangle (point 256 0) (point 256 256) (point 0 256)
 abbrev pub midpoint : Point → Point → Point
 midpoint a c = point ((px a + px c) / 2) ((py a + py c) / 2)
 
+-- M is a whole point: it lies exactly in the middle of A and C
+pub record Exact (t : Triangle) : Type 0 where
+  pub mx : 2 * px (midpoint (cornerA t) (cornerC t)) ≡ px (cornerA t) + px (cornerC t)
+  pub my : 2 * py (midpoint (cornerA t) (cornerC t)) ≡ py (cornerA t) + py (cornerC t)
+
 -- the left child is (A, M, B), M the midpoint of the long side A-C
 abbrev pub leftTriangle : Triangle → Triangle
 leftTriangle t = triangle (cornerA t) (midpoint (cornerA t) (cornerC t)) (cornerB t)

@@ -1,7 +1,7 @@
 -- What `known` says is the table's one row.
 use mathlib.Core.Path.{refl}
 use borrow.Author.Tests.{not-true, not-false}
-use Rattle.node_calls.proofs.Outcomes.{no-such-node, known-node}
+use Rattle.node_calls.proofs.Outcomes.{no-such-node, known-node, known-corners}
 use borrow.Author.Needs.{needs}
 use Rattle.node_calls.proofs.corners.Statement.{statement}
 use Rattle.node_calls.proofs.corners.Tie as tie
@@ -13,7 +13,9 @@ corners-of-requires : tie.Need-corners-of-requires
 corners-of-requires c κs = c .before .known .ensures .yes (not-false _ (c .if1 .left)) .low
 
 returns-2 : tie.Need-returns-2
-returns-2 c = known-node (c .before .before .known .ensures .yes (not-false _ (c .before .if1 .left))) (c .corners-of .ensures)
+returns-2 c =
+    let k = c .before .before .known .ensures .yes (not-false _ (c .before .if1 .left)) in
+    known-node k (known-corners k (c .corners-of .ensures))
 
 pub corners-spec : {M : Type 1} → statement M
 corners-spec =
