@@ -2,7 +2,7 @@
 use mathlib.Core.Path.{_≡_, refl, sym, ap, _∙_, subst}
 use mathlib.Core.Logic.{_≢_}
 use mathlib.Core.List.{List}
-use Prim.Native.Nat.{ℕ, zero, suc, _+_, _-_, _^_, _≤_, _<_}
+use Prim.Native.Nat.{ℕ, zero, suc, _+_, _^_, _<_}
 use native.Mathlib.Nat.{pow-le-pow-right}
 use native.Mathlib.Omega.{arith}
 use lib.ListN.{length, take}
@@ -12,7 +12,7 @@ use Rattle.panel.specs.Calls.{LeafNumbered}
 use Rattle.steps.specs.Steps.{panelIn}
 use Rattle.steps.specs.Holding.{Holds}
 use Rattle.steps.proofs.Answering.{lent-small}
-use Rattle.printing.specs.Printing.{leavesIn, lineCount, Numbers}
+use Rattle.printing.specs.Printing.{leavesIn, Numbers}
 use Rattle.printing.specs.Printing.Numbers.{leaf}
 
 -- where a panel is open its leaves are printed, and else none

@@ -1,12 +1,12 @@
 -- A run goes on from part to part: the parts in turn are the run of their bytes together, however these are cut between records.
-use mathlib.Core.Path.{_≡_, refl, sym, ap, ap₂, _∙_, subst, subst⁻¹}
+use mathlib.Core.Path.{_≡_, refl, sym, ap, _∙_, subst, subst⁻¹}
 use mathlib.Core.Bool.{Bool, true, false}
 use mathlib.Core.List.{List, [], _∷_, _++_, append-assoc, append-nil}
 use Prim.Native.Nat.{ℕ, _+_, _-_, _*_, _/_, _%_, _≤_, _<_, min}
 use native.Mathlib.Omega.{arith}
 use lib.ListN.{length, take, drop, length-append, length-drop, take-append-drop}
 use lib.Seq.{slice, length-slice, length-take-le, take-take, take-append-le, drop-append-le, drop-append-add, drop-drop}
-use Rattle.records.specs.Records.{recordAt, recordsIn, mostRecords, countAfter}
+use Rattle.records.specs.Records.{recordAt, recordsIn, mostRecords}
 use Rattle.steps.specs.Steps.{Step}
 use Rattle.steps.specs.Holding.{Holds}
 use Rattle.steps.proofs.Keeping.{holds-none}
@@ -47,15 +47,15 @@ runs-then {rs} {b = b} {xs = xs} {B = B} r h (more {given = g} {t = t} {u = u} {
 -- ---- parts in turn
 
 -- what parts of whole records, rs together, have come to
-pub record Sofar (b out rs : List ℕ) (n C : ℕ) (t given : List ℕ) : Type 0 where
-  pub whole : length rs % 8 ≡ 0
-  pub count : n ≡ min (min mostRecords (length rs / 8)) (length out)
-  pub runs : Runs rs 0 b (take n given) C t
-  pub long : length given ≡ length out
-  pub rest : drop n given ≡ drop n out
+record Sofar (b out rs : List ℕ) (n C : ℕ) (t given : List ℕ) : Type 0 where
+  whole : length rs % 8 ≡ 0
+  count : n ≡ min (min mostRecords (length rs / 8)) (length out)
+  runs : Runs rs 0 b (take n given) C t
+  long : length given ≡ length out
+  rest : drop n given ≡ drop n out
 
 module _ {b out rs p t u given after : List ℕ} {ends : Bool} {n m C D : ℕ} (h : Sofar b out rs n C t given) (q : Part p ends n C t given m D u after) where
-  pub on-count : m ≡ min (min mostRecords (length rs / 8 + recordsIn ends p)) (length out)
+  on-count : m ≡ min (min mostRecords (length rs / 8 + recordsIn ends p)) (length out)
   on-count = omega (arith, h .count, h .long, q .all)
 
   on-after : n ≤ m

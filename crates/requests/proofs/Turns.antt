@@ -9,7 +9,7 @@ use native.Mathlib.Omega.{arith}
 use lib.ListN.{length, take, drop, set, length-set}
 use lib.Seq.{slice, slice-empty, length-slice, take-suc-set, take-set-le, drop-set-lt, drop-drop, drop-append-le, length-take-le}
 use Rattle.bits.specs.Bits.{Bytes}
-use Rattle.records.specs.Records.{recordAt, recordsIn, countAfter}
+use Rattle.records.specs.Records.{recordAt, countAfter}
 use Rattle.records.proofs.Tails.{in-bytes}
 use Rattle.steps.specs.Steps.{Step}
 use Rattle.requests.specs.Requests.{Runs, Part}

@@ -6,7 +6,7 @@ use native.Mathlib.Omega.{arith}
 use native.Mathlib.Nat.{pow-suc, mul-assoc, add-mul, mul-comm}
 use lib.Pow.{pow-add}
 use Rattle.nodes.specs.Depth.{depthOf, depthIn}
-use Rattle.triangles.specs.Corners.{Triangle, cornerA, cornerB, cornerC, px, py, midpoint, Exact, leftTriangle, rightTriangle, cornersAt, cornersOf}
+use Rattle.triangles.specs.Corners.{Triangle, cornerA, cornerB, cornerC, px, py, Exact, leftTriangle, rightTriangle, cornersAt, cornersOf}
 use Rattle.nodes.proofs.Depths.{depth-left, depth-right, depth-half, node-ind}
 use Rattle.triangles.proofs.Cornering.{left-triangle, right-triangle}
 

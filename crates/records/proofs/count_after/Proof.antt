@@ -1,7 +1,6 @@
 -- The lesser of the limit and of the records so far with those of the part.
 use mathlib.Core.Path.{ap, _∙_}
 use Prim.Native.Nat.{_+_, min}
-use native.Mathlib.Omega.{arith}
 use borrow.Author.Needs.{needs}
 use Rattle.records.specs.Records.{mostRecords}
 use Rattle.records.proofs.count_after.Statement.{statement}
