@@ -25,7 +25,8 @@ fn work(buffer: &mut [u8], answers: &mut [u8]) -> Ran
     let mut deep: usize = 0;
     while count < records::MOST_RECORDS {
         let got = io::read_full(STDIN_FILENO, &mut input);
-        let ran = requests::run(&input[..got], got < PART, buffer, answers, Ran { count, deep });
+        let before = Ran { count, deep };
+        let ran = requests::run(&input[..got], got < PART, buffer, answers, before);
         if got < PART {
             return ran;
         }
@@ -57,8 +58,8 @@ fn print(answers: &[u8], buffer: &[u8], deep: usize) -> usize
     while next < n {
         let filled = printing::fill(answers, buffer, deep, next, &mut block);
         let size = filled.size;
-        hand_out(answers, buffer, deep, &mut done, filled.upto, &block[..size]);
         next = filled.upto;
+        hand_out(answers, buffer, deep, &mut done, next, &block[..size]);
     }
     done
 }
