@@ -1,7 +1,7 @@
 //! Measures the proved calls beside ordinary Rust and C versions of the paper's algorithms. `bench/run` builds and runs all of it.
 //!
 //!     bench ratios [--quick]    the table of docs/SPEED.md, then those of times and ratios; both sides are checked to compute the same
-//!     bench growth [--quick]    judging and making sums, in nanoseconds a byte, from depth 3 to 14
+//!     bench growth [--quick]    judging and making sums, in nanoseconds a byte, at every depth
 //!     bench scanner [--quick]   the scanner on 4,096 records beside two other programs
 //!     bench calls KIND DEPTH    the calls whose instructions bench/counts counts; KIND is fresh, adaptive or full
 //!
@@ -17,7 +17,7 @@ mod scanner;
 use std::process::ExitCode;
 use std::time::Duration;
 
-use bench::panels::Kind;
+use bench::panels::{Kind, DEEPEST};
 
 fn main() -> ExitCode {
     let words: Vec<String> = std::env::args().skip(1).collect();
@@ -36,7 +36,7 @@ fn main() -> ExitCode {
                 _ => return wrong(),
             };
             match depth.parse() {
-                Ok(deep) if (6..=14).contains(&deep) => calls::make(deep, kind),
+                Ok(deep) if (6..=DEEPEST).contains(&deep) => calls::make(deep, kind),
                 _ => return wrong(),
             }
         }
@@ -46,6 +46,9 @@ fn main() -> ExitCode {
 }
 
 fn wrong() -> ExitCode {
-    eprintln!("bench ratios|growth|scanner [--quick], or bench calls fresh|adaptive|full DEPTH (6 to 14)");
+    eprintln!(
+        "bench ratios|growth|scanner [--quick], or bench calls fresh|adaptive|full DEPTH, \
+         which is 6 to {DEEPEST}"
+    );
     ExitCode::from(2)
 }

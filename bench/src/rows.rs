@@ -48,8 +48,10 @@ pub fn each(
     Some(least(&mut (), asked.len(), long, |_| {}, run_ours, run_ordinary))
 }
 
+/// Three neighbours as a number that no other three have: no node needs more than a third of its bits.
 pub fn around(n: [u32; 3]) -> u64 {
-    u64::from(n[0]) + (u64::from(n[1]) << 16) + (u64::from(n[2]) << 32)
+    const BITS: u32 = u64::BITS / 3;
+    n.iter().fold(0, |all, node| (all << BITS) + u64::from(*node))
 }
 
 pub fn points(t: Triangle) -> u64 {
@@ -185,7 +187,7 @@ fn change(
 /// The panel that splits are measured on: the same, or, where no leaf of it can be split, after one merge in its middle.
 pub fn to_split(panel: &Panel) -> Panel {
     let mut start = panel.clone();
-    if start.leaves().iter().all(|k| bench::panels::depth(*k) == start.deep) {
+    if start.cuttable().is_empty() {
         let middle = start.leaves()[start.leaves().len() / 3];
         assert_eq!(ours::merge(start.lent_mut(), panel.deep, middle), 0);
     }
@@ -193,18 +195,13 @@ pub fn to_split(panel: &Panel) -> Panel {
 }
 
 fn changes<S: Ordinary>(long: Duration, panel: &Panel) -> Vec<Row> {
-    let cuttable = to_split(panel);
-    let asked = cuttable.some_leaves(LEAVES, ours::split);
-    let asked = if asked.is_empty() { all_that(&cuttable, ours::split) } else { asked };
+    let start = to_split(panel);
+    let asked = start.some_leaves(LEAVES, ours::split);
+    let asked = if asked.is_empty() { start.cuttable() } else { asked };
     vec![
-        change(long, "a judged split", &cuttable, &asked, ours::split, S::split),
+        change(long, "a judged split", &start, &asked, ours::split, S::split),
         change(long, "a judged merge", panel, &panel.some_leaves(LEAVES, ours::merge), ours::merge, S::merge),
     ]
-}
-
-/// Every leaf that a call answers 0 for.
-pub fn all_that(panel: &Panel, call: Ours) -> Vec<u32> {
-    panel.leaves().into_iter().filter(|k| call(panel.clone().lent_mut(), panel.deep, *k) == 0).collect()
 }
 
 /// All rows of a panel, beside one ordinary version.
