@@ -2,7 +2,8 @@
 //!
 //!     bench ratios [--quick]    the table of docs/SPEED.md, then those of times and ratios; both sides are checked to compute the same
 //!     bench growth [--quick]    judging and making sums, in nanoseconds a byte, at every depth
-//!     bench scanner [--quick]   the scanner on 4,096 records beside two other programs
+//!     bench scanner [--quick]   the scanner on two request files beside two other programs; bench/native builds it
+//!     bench records             writes those files to target/bench/
 //!     bench calls KIND DEPTH    the calls whose instructions bench/counts counts; KIND is fresh, adaptive or full
 //!
 //! Exit status: 0 done; 2 wrong arguments. It stops where the two sides differ.
@@ -11,9 +12,11 @@ mod calls;
 mod growth;
 mod others;
 mod ratios;
+mod records;
 mod rows;
 mod scanner;
 
+use std::path::PathBuf;
 use std::process::ExitCode;
 use std::time::Duration;
 
@@ -27,7 +30,10 @@ fn main() -> ExitCode {
     match words.as_slice() {
         ["ratios"] | ["ratios", "--quick"] => ratios::print(long),
         ["growth"] | ["growth", "--quick"] => growth::print(long),
-        ["scanner"] | ["scanner", "--quick"] => scanner::print(if quick { 3 } else { 15 }),
+        ["scanner"] | ["scanner", "--quick"] => {
+            scanner::print(&built(), &target(), if quick { 1 } else { 3 })
+        }
+        ["records"] => _ = records::write(&target()),
         ["calls", kind, depth] => {
             let kind = match *kind {
                 "fresh" => Kind::Fresh,
@@ -45,9 +51,19 @@ fn main() -> ExitCode {
     ExitCode::SUCCESS
 }
 
+/// The folder where cargo put this program.
+fn built() -> PathBuf {
+    std::env::current_exe().expect("this program").parent().expect("a folder").to_path_buf()
+}
+
+/// target/bench, for what is made to be measured.
+fn target() -> PathBuf {
+    built().join("../../bench")
+}
+
 fn wrong() -> ExitCode {
     eprintln!(
-        "bench ratios|growth|scanner [--quick], or bench calls fresh|adaptive|full DEPTH, \
+        "bench ratios|growth|scanner [--quick], bench records, or bench calls fresh|adaptive|full DEPTH, \
          which is 6 to {DEEPEST}"
     );
     ExitCode::from(2)
