@@ -29,7 +29,7 @@ fn compiled_c(source: &Path) {
     let out = PathBuf::from(std::env::var("OUT_DIR").expect("cargo sets it"));
     let (object, archive) = (out.join("ordinary.o"), out.join("libordinary_c.a"));
     let compiler = std::env::var("CC").unwrap_or_else(|_| "cc".into());
-    let flags = ["-std=c99", "-Wall", "-Wextra", "-Werror", "-O3", "-fPIC", "-c"];
+    let flags = ["-std=c99", "-Wall", "-Wextra", "-Werror", "-O3", "-falign-functions=64", "-fPIC", "-c"];
     run(Command::new(compiler).args(flags).arg(source).arg("-o").arg(&object));
     run(Command::new("ar").arg("crs").arg(&archive).arg(&object));
     println!("cargo:rerun-if-changed={}", source.display());

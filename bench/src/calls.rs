@@ -14,18 +14,19 @@ fn counted_part(work: &mut dyn FnMut()) {
     work();
 }
 
-/// Makes the calls, and prints a line for each pair: what it is, both symbols, and how many calls each had.
-pub fn make(deep: u32, kind: Kind) {
-    let panel = Panel::new(deep, kind);
-    let (lent, bytes) = (panel.lent(), &panel.bytes[..]);
-    let mut nodes = Random(3).shuffled(panel.leaves());
-    nodes.truncate(256);
-    let mut numbers = Random(4).shuffled((0..panel.leaves().len() as u32).collect());
-    numbers.truncate(256);
-    let cuttable = rows::to_split(&panel);
-    let split = rows::all_that(&cuttable, ours::split).into_iter().take(8).collect::<Vec<_>>();
-    let merge = panel.some_leaves(8, ours::merge);
+/// How many leaves a call is counted on, and a split or merge, at most.
+const LEAVES: usize = 256;
+const CHANGED: usize = 8;
 
+fn some(mut items: Vec<u32>, seed: u64) -> Vec<u32> {
+    items = Random(seed).shuffled(items);
+    items.truncate(LEAVES);
+    items
+}
+
+/// The calls that leave a panel as it was.
+fn count_calls(panel: &Panel, numbers: &[u32], nodes: &[u32]) {
+    let (deep, lent, bytes) = (panel.deep, panel.lent(), &panel.bytes[..]);
     let mut work = panel.clone();
     counted_part(&mut || {
         black_box(ours::all_right(lent, deep));
@@ -33,11 +34,11 @@ pub fn make(deep: u32, kind: Kind) {
         ours::make_sums(work.lent_mut(), deep);
         ordinary::ordinary_sums(&mut work.bytes, deep);
         ordinary::ordinary_sums_by_row(&mut work.bytes, deep);
-        for i in &numbers {
+        for i in numbers {
             black_box(ours::leaf(lent, deep, *i));
             black_box(ordinary::ordinary_leaf(bytes, deep, *i));
         }
-        for k in &nodes {
+        for k in nodes {
             black_box(ours::leaf_toward(lent, deep, *k));
             black_box(ordinary::ordinary_number(bytes, deep, *k));
             black_box(ordinary::ordinary_number_settled(bytes, deep, *k));
@@ -49,23 +50,36 @@ pub fn make(deep: u32, kind: Kind) {
             black_box(ordinary::ordinary_corners_by_matrices(*k));
         }
     });
-    for (asked, start, one, other) in [
-        (
-            &split,
-            &cuttable,
-            ours::split as fn(&mut [u8], u32, u32) -> u32,
-            ordinary::ordinary_split as fn(&mut [u8], u32, u32),
-        ),
-        (&merge, &panel, ours::merge, ordinary::ordinary_merge),
-    ] {
-        for k in asked {
-            let (mut a, mut b) = (start.clone(), start.clone());
-            counted_part(&mut || {
-                one(a.lent_mut(), deep, *k);
-                other(&mut b.bytes, deep, *k);
-            });
-        }
+}
+
+/// A split or a merge of each leaf, by both sides.
+fn count_changes(
+    start: &Panel,
+    asked: &[u32],
+    ours: fn(&mut [u8], u32, u32) -> u32,
+    ordinary: fn(&mut [u8], u32, u32),
+) {
+    for k in asked {
+        let (mut a, mut b) = (start.clone(), start.clone());
+        counted_part(&mut || {
+            ours(a.lent_mut(), start.deep, *k);
+            ordinary(&mut b.bytes, start.deep, *k);
+        });
     }
+}
+
+/// Makes the calls, and prints a line for each pair: what it is, both symbols, and how many calls each had.
+pub fn make(deep: u32, kind: Kind) {
+    let panel = Panel::new(deep, kind);
+    let leaves = panel.leaves();
+    let numbers = some((0..leaves.len() as u32).collect(), 4);
+    let nodes = some(leaves, 3);
+    let start = rows::to_split(&panel);
+    let split: Vec<u32> = start.cuttable().into_iter().take(CHANGED).collect();
+    let merge = panel.some_leaves(CHANGED, ours::merge);
+    count_calls(&panel, &numbers, &nodes);
+    count_changes(&start, &split, ours::split, ordinary::ordinary_split);
+    count_changes(&panel, &merge, ours::merge, ordinary::ordinary_merge);
 
     // A split or merge makes the ordinary sums once more.
     let sums = 1 + split.len() + merge.len();

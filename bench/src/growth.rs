@@ -1,20 +1,20 @@
-//! Cost in step with the panel's bytes: nanoseconds a byte, from depth 3 to 14.
+//! Cost in step with the panel's bytes: nanoseconds a byte, from depth 3 to the greatest.
 
 use std::time::Duration;
 
 use bench::ours;
-use bench::panels::{Panel, KINDS};
+use bench::panels::{size, Panel, DEEPEST, KINDS};
 use bench::timing::least;
 
 pub fn print(long: Duration) {
     println!("| D | bytes | panel | judge, ns | ns a byte | making all sums, ns | ns a byte |");
     println!("|---|---|---|---|---|---|---|");
-    for deep in 3..=14 {
+    for deep in 3..=DEEPEST {
         for kind in KINDS {
             let mut panel = Panel::new(deep, kind);
-            let bytes = panel.lent().len();
+            let bytes = size(deep);
             // A small panel's calls are shorter than the clock can tell.
-            let calls = 8192 / bytes;
+            let calls = size(DEEPEST) / bytes;
             let judge = |p: &mut Panel| (0..calls).for_each(|_| assert_eq!(ours::judge(p.lent()), 0));
             let make = |p: &mut Panel| (0..calls).for_each(|_| ours::make_sums(p.lent_mut(), deep));
             let times = least(&mut panel, calls, long, |_| {}, judge, make);

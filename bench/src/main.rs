@@ -1,8 +1,9 @@
 //! Measures the proved calls beside ordinary Rust and C versions of the paper's algorithms. `bench/run` builds and runs all of it.
 //!
 //!     bench ratios [--quick]    the table of docs/SPEED.md, then those of times and ratios; both sides are checked to compute the same
-//!     bench growth [--quick]    judging and making sums, in nanoseconds a byte, from depth 3 to 14
-//!     bench scanner [--quick]   the scanner on 4,096 records beside two other programs
+//!     bench growth [--quick]    judging and making sums, in nanoseconds a byte, at every depth
+//!     bench scanner [--quick]   the scanner on two request files beside two other programs; bench/native builds it
+//!     bench records             writes those files to target/bench/
 //!     bench calls KIND DEPTH    the calls whose instructions bench/counts counts; KIND is fresh, adaptive or full
 //!
 //! Exit status: 0 done; 2 wrong arguments. It stops where the two sides differ.
@@ -11,13 +12,15 @@ mod calls;
 mod growth;
 mod others;
 mod ratios;
+mod records;
 mod rows;
 mod scanner;
 
+use std::path::PathBuf;
 use std::process::ExitCode;
 use std::time::Duration;
 
-use bench::panels::Kind;
+use bench::panels::{Kind, DEEPEST};
 
 fn main() -> ExitCode {
     let words: Vec<String> = std::env::args().skip(1).collect();
@@ -27,7 +30,10 @@ fn main() -> ExitCode {
     match words.as_slice() {
         ["ratios"] | ["ratios", "--quick"] => ratios::print(long),
         ["growth"] | ["growth", "--quick"] => growth::print(long),
-        ["scanner"] | ["scanner", "--quick"] => scanner::print(if quick { 3 } else { 15 }),
+        ["scanner"] | ["scanner", "--quick"] => {
+            scanner::print(&built(), &target(), if quick { 1 } else { 3 })
+        }
+        ["records"] => _ = records::write(&target()),
         ["calls", kind, depth] => {
             let kind = match *kind {
                 "fresh" => Kind::Fresh,
@@ -36,7 +42,7 @@ fn main() -> ExitCode {
                 _ => return wrong(),
             };
             match depth.parse() {
-                Ok(deep) if (6..=14).contains(&deep) => calls::make(deep, kind),
+                Ok(deep) if (6..=DEEPEST).contains(&deep) => calls::make(deep, kind),
                 _ => return wrong(),
             }
         }
@@ -45,7 +51,20 @@ fn main() -> ExitCode {
     ExitCode::SUCCESS
 }
 
+/// The folder where cargo put this program.
+fn built() -> PathBuf {
+    std::env::current_exe().expect("this program").parent().expect("a folder").to_path_buf()
+}
+
+/// target/bench, for what is made to be measured.
+fn target() -> PathBuf {
+    built().join("../../bench")
+}
+
 fn wrong() -> ExitCode {
-    eprintln!("bench ratios|growth|scanner [--quick], or bench calls fresh|adaptive|full DEPTH (6 to 14)");
+    eprintln!(
+        "bench ratios|growth|scanner [--quick], bench records, or bench calls fresh|adaptive|full DEPTH, \
+         which is 6 to {DEEPEST}"
+    );
     ExitCode::from(2)
 }

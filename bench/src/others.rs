@@ -4,10 +4,10 @@ use std::time::Duration;
 
 use bench::ordinary;
 use bench::ours;
-use bench::panels::{Kind, Panel, Random};
+use bench::panels::{Kind, Panel};
 use bench::timing::least;
 
-use crate::rows::{around, each, often, points, Row};
+use crate::rows::{around, each, in_no_order, points, Row};
 
 /// Making all sums, beside the way by rows.
 fn sums(long: Duration, panel: &Panel) -> Row {
@@ -32,8 +32,8 @@ fn row(
     ours: impl Fn(u32) -> u64,
     ordinary: impl Fn(u32) -> u64,
 ) -> Row {
-    let mixed = often(Random(2).shuffled(panel.leaves()));
-    Row { what, target: None, times: each(long, what, &mixed, ours, ordinary) }
+    let asked = in_no_order(&panel.leaves());
+    Row { what, target: None, times: each(long, what, &asked, ours, ordinary) }
 }
 
 fn neighbours_in_memory(node: u32) -> u64 {

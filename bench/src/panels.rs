@@ -2,6 +2,14 @@
 
 use crate::{ordinary, ours};
 
+/// The greatest depth that the calls take.
+pub const DEEPEST: u32 = 17;
+
+/// The bytes of a panel of a depth.
+pub const fn size(deep: u32) -> usize {
+    1 << (deep - 1)
+}
+
 /// How much of a panel is cut.
 #[derive(Clone, Copy, PartialEq)]
 pub enum Kind {
@@ -34,7 +42,7 @@ pub struct Panel {
 
 impl Panel {
     pub fn new(deep: u32, kind: Kind) -> Panel {
-        let mut panel = Panel { deep, bytes: vec![0; (1 << (deep - 1)) + ordinary::SPARE] };
+        let mut panel = Panel { deep, bytes: vec![0; size(deep) + ordinary::SPARE] };
         ordinary::open(&mut panel.bytes, deep);
         match kind {
             Kind::Fresh => {}
@@ -48,16 +56,13 @@ impl Panel {
     /// Splits leaves that are chosen by their corners until all that are left have the greatest depth.
     fn refine(&mut self, chosen: impl Fn(ordinary::Triangle) -> bool) {
         loop {
-            let asked: Vec<u32> = self.leaves();
-            let asked =
-                asked.iter().filter(|k| depth(**k) < self.deep && chosen(ordinary::ordinary_corners(**k)));
-            let mut any = false;
-            for node in asked {
-                ordinary::cut(&mut self.bytes, self.deep, *node);
-                any = true;
-            }
-            if !any {
+            let mut asked = self.cuttable();
+            asked.retain(|k| chosen(ordinary::ordinary_corners(*k)));
+            if asked.is_empty() {
                 return;
+            }
+            for node in asked {
+                ordinary::cut(&mut self.bytes, self.deep, node);
             }
             ordinary::ordinary_sums(&mut self.bytes, self.deep);
         }
@@ -76,6 +81,11 @@ impl Panel {
     pub fn leaves(&self) -> Vec<u32> {
         let count = ordinary::count(&self.bytes, self.deep);
         (0..count).map(|i| ordinary::ordinary_leaf(&self.bytes, self.deep, i)).collect()
+    }
+
+    /// The leaves that can be split: those that are not at depth D.
+    pub fn cuttable(&self) -> Vec<u32> {
+        self.leaves().into_iter().filter(|k| depth(*k) < self.deep).collect()
     }
 
     /// Up to `most` leaves that a call answers 0 for, spread over the panel.

@@ -18,12 +18,18 @@ pub struct Row {
 /// How many leaves a split or a merge is measured on.
 const LEAVES: usize = 8;
 /// A run makes at least so many of the short calls.
-const CALLS: usize = 512;
+const CALLS: usize = 1 << 14;
 
-/// Leaf numbers or nodes to ask for, often enough.
-pub fn often(items: Vec<u32>) -> Vec<u32> {
-    let times = CALLS.div_ceil(items.len());
-    items.repeat(times)
+/// Leaf numbers or nodes to ask for in turn, often enough.
+fn in_turn(items: &[u32]) -> Vec<u32> {
+    items.repeat(CALLS.div_ceil(items.len()))
+}
+
+/// The same in no order, and in another each time: the processor learns a short order by heart and then guesses every jump right, so
+/// that a panel of few leaves would be measured otherwise than one of many.
+pub fn in_no_order(items: &[u32]) -> Vec<u32> {
+    let mut random = Random(1);
+    (0..CALLS.div_ceil(items.len())).flat_map(|_| random.shuffled(items.to_vec())).collect()
 }
 
 /// A call on each number, by both sides.
@@ -48,8 +54,10 @@ pub fn each(
     Some(least(&mut (), asked.len(), long, |_| {}, run_ours, run_ordinary))
 }
 
+/// Three neighbours as a number that no other three have: no node needs more than a third of its bits.
 pub fn around(n: [u32; 3]) -> u64 {
-    u64::from(n[0]) + (u64::from(n[1]) << 16) + (u64::from(n[2]) << 32)
+    const BITS: u32 = u64::BITS / 3;
+    n.iter().fold(0, |all, node| (all << BITS) + u64::from(*node))
 }
 
 pub fn points(t: Triangle) -> u64 {
@@ -96,41 +104,40 @@ fn leaves<S: Ordinary>(long: Duration, panel: &Panel) -> Vec<Row> {
     let (deep, lent, bytes) = (panel.deep, panel.lent(), &panel.bytes[..]);
     let nodes = panel.leaves();
     let numbers: Vec<u32> = (0..nodes.len() as u32).collect();
-    let mut random = Random(1);
-    let leaf = |what, asked: Vec<u32>| Row {
+    let leaf = |what, asked: &[u32]| Row {
         what,
         target: Some(0.9),
         times: each(
             long,
             what,
-            &often(asked),
+            asked,
             |i| u64::from(ours::leaf(lent, deep, i)),
             |i| u64::from(S::leaf(bytes, deep, i)),
         ),
     };
-    let number = |what, asked: Vec<u32>| Row {
+    let number = |what, asked: &[u32]| Row {
         what,
         target: Some(1.0),
         times: each(
             long,
             what,
-            &often(asked),
+            asked,
             |k| u64::from(ours::leaf_toward(lent, deep, k).1),
             |k| u64::from(S::number(bytes, deep, k)),
         ),
     };
     vec![
-        leaf("leaf by number, in turn", numbers.clone()),
-        leaf("leaf by number, in no order", random.shuffled(numbers)),
-        number("number of leaf, in turn", nodes.clone()),
-        number("number of leaf, in no order", random.shuffled(nodes)),
+        leaf("leaf by number, in turn", &in_turn(&numbers)),
+        leaf("leaf by number, in no order", &in_no_order(&numbers)),
+        number("number of leaf, in turn", &in_turn(&nodes)),
+        number("number of leaf, in no order", &in_no_order(&nodes)),
     ]
 }
 
 /// Neighbours and corners of the panel's leaves, in turn and in no order.
 fn nodes<S: Ordinary>(long: Duration, panel: &Panel) -> Vec<Row> {
-    let in_turn = often(panel.leaves());
-    let mixed = often(Random(2).shuffled(panel.leaves()));
+    let leaves = panel.leaves();
+    let (in_turn, mixed) = (in_turn(&leaves), in_no_order(&leaves));
     let theirs = |k| {
         let n = S::neighbours(k);
         around([n.left, n.right, n.edge])
@@ -185,7 +192,7 @@ fn change(
 /// The panel that splits are measured on: the same, or, where no leaf of it can be split, after one merge in its middle.
 pub fn to_split(panel: &Panel) -> Panel {
     let mut start = panel.clone();
-    if start.leaves().iter().all(|k| bench::panels::depth(*k) == start.deep) {
+    if start.cuttable().is_empty() {
         let middle = start.leaves()[start.leaves().len() / 3];
         assert_eq!(ours::merge(start.lent_mut(), panel.deep, middle), 0);
     }
@@ -193,18 +200,13 @@ pub fn to_split(panel: &Panel) -> Panel {
 }
 
 fn changes<S: Ordinary>(long: Duration, panel: &Panel) -> Vec<Row> {
-    let cuttable = to_split(panel);
-    let asked = cuttable.some_leaves(LEAVES, ours::split);
-    let asked = if asked.is_empty() { all_that(&cuttable, ours::split) } else { asked };
+    let start = to_split(panel);
+    let asked = start.some_leaves(LEAVES, ours::split);
+    let asked = if asked.is_empty() { start.cuttable() } else { asked };
     vec![
-        change(long, "a judged split", &cuttable, &asked, ours::split, S::split),
+        change(long, "a judged split", &start, &asked, ours::split, S::split),
         change(long, "a judged merge", panel, &panel.some_leaves(LEAVES, ours::merge), ours::merge, S::merge),
     ]
-}
-
-/// Every leaf that a call answers 0 for.
-pub fn all_that(panel: &Panel, call: Ours) -> Vec<u32> {
-    panel.leaves().into_iter().filter(|k| call(panel.clone().lent_mut(), panel.deep, *k) == 0).collect()
 }
 
 /// All rows of a panel, beside one ordinary version.

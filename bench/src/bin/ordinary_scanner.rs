@@ -3,12 +3,13 @@
 use std::io::{self, BufWriter, Read, Write};
 
 use bench::ordinary;
+use bench::panels::{size, DEEPEST};
 
 fn main() -> io::Result<()> {
     let mut input = Vec::new();
     io::stdin().lock().take(8 * 4096).read_to_end(&mut input)?;
     let mut out = BufWriter::new(io::stdout().lock());
-    let mut bytes = [0; (1 << 13) + ordinary::SPARE];
+    let mut bytes = [0; size(DEEPEST) + ordinary::SPARE];
     let mut deep = 0;
     for (i, record) in input.chunks_exact(8).enumerate() {
         let number = u32::from_le_bytes([record[4], record[5], record[6], record[7]]);

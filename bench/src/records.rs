@@ -1,0 +1,137 @@
+//! Request files to run the scanner on: an open, then splits and merges that are all allowed.
+
+use std::path::{Path, PathBuf};
+
+use bench::panels::{depth, Kind, Panel, Random, DEEPEST};
+use bench::{ordinary, ours};
+
+/// As many records as the scanner reads at most.
+pub const MOST: usize = 4096;
+/// The depth of the file that leaves the most leaves.
+const NEARLY_FULL: u32 = 14;
+
+const OPEN: u8 = 0;
+const SPLIT: u8 = 1;
+const MERGE: u8 = 2;
+
+/// Records, and the panel that they leave.
+pub struct Requests {
+    panel: Panel,
+    bytes: Vec<u8>,
+}
+
+impl Requests {
+    fn open(deep: u32) -> Requests {
+        let mut requests = Requests { panel: Panel::new(deep, Kind::Fresh), bytes: Vec::new() };
+        requests.record(OPEN, deep);
+        requests
+    }
+
+    fn record(&mut self, kind: u8, number: u32) {
+        self.bytes.extend([kind, 0, 0, 0]);
+        self.bytes.extend(number.to_le_bytes());
+    }
+
+    /// Asks for a split or a merge, unless it is refused or the file is full.
+    fn ask(&mut self, kind: u8, node: u32) {
+        let call = if kind == SPLIT { ours::split } else { ours::merge };
+        let deep = self.panel.deep;
+        if self.count() < MOST && call(self.panel.lent_mut(), deep, node) == 0 {
+            self.record(kind, node);
+        }
+    }
+
+    pub fn count(&self) -> usize {
+        self.bytes.len() / 8
+    }
+
+    pub fn leaves(&self) -> u32 {
+        ordinary::count(&self.panel.bytes, self.panel.deep)
+    }
+
+    /// The leaves of depth D − 1.
+    fn lowest(&self) -> Vec<u32> {
+        let last = |k: &u32| depth(*k) == self.panel.deep - 1;
+        self.panel.leaves().into_iter().filter(last).collect()
+    }
+
+    /// Whether a split of a leaf cuts coarser ones too: the neighbour across its long side is not a leaf yet.
+    fn forces(&self, leaf: u32) -> bool {
+        let across = ours::edge(leaf);
+        across != 0 && ours::leaf_toward(self.panel.lent(), self.panel.deep, across).0 != across
+    }
+}
+
+/// Leaves that look random, five splits to a merge.
+pub fn random(deep: u32) -> Requests {
+    let mut requests = Requests::open(deep);
+    let mut random = Random(5);
+    while requests.count() < MOST {
+        let number = random.below(requests.leaves() as usize) as u32;
+        let leaf = ours::leaf(requests.panel.lent(), deep, number);
+        requests.ask(if random.below(6) == 0 { MERGE } else { SPLIT }, leaf);
+    }
+    requests
+}
+
+/// Splits that leave as many leaves as can be: down to a first leaf of depth D − 1, and then such leaves alone, as long as there are
+/// those whose split cuts coarser ones too, then the others.
+pub fn most_leaves(deep: u32) -> Requests {
+    let mut requests = Requests::open(deep);
+    (1..deep - 1).for_each(|d| requests.ask(SPLIT, 1 << d));
+    loop {
+        let before = requests.count();
+        for leaf in requests.lowest() {
+            if requests.forces(leaf) {
+                requests.ask(SPLIT, leaf);
+            }
+        }
+        if requests.count() == before {
+            break;
+        }
+    }
+    requests.lowest().into_iter().for_each(|leaf| requests.ask(SPLIT, leaf));
+    requests
+}
+
+/// A request file, and what is in it.
+pub struct Input {
+    pub name: &'static str,
+    pub says: String,
+    pub path: PathBuf,
+}
+
+/// Why no file leaves a fully cut panel of this depth, and what comes next to it.
+fn why_not_full(deep: u32, requests: &Requests) -> String {
+    let (before, pairs) = (deep - 2, 1usize << (deep - 2));
+    let (all, needed) = (1u32 << deep, 1 + before as usize + pairs);
+    let smaller = most_leaves(deep - 1);
+    assert_eq!(
+        requests.leaves() as usize,
+        all as usize - 2 * (needed - requests.count()),
+        "the most there can be"
+    );
+    assert_eq!(smaller.leaves(), all / 2, "fully cut");
+    format!(
+        "splits alone, at D = {deep}, that leave {} leaves, as many as so many records can. All {all} would take {needed} records, since a \
+         split cuts at most one of the {pairs} pairs of triangles of depth {}, and the first {before} none. At D = {} a fully cut panel \
+         takes {} records.",
+        requests.leaves(), deep - 1, deep - 1, smaller.count()
+    )
+}
+
+/// Writes the files into a folder.
+pub fn write(folder: &Path) -> [Input; 2] {
+    std::fs::create_dir_all(folder).expect("the folder can be made");
+    let (random, most) = (random(DEEPEST), most_leaves(NEARLY_FULL));
+    let of_random = format!(
+        "splits and merges of leaves that look random, at D = {DEEPEST}, five splits to a merge; {} leaves are left.",
+        random.leaves()
+    );
+    let of_most = why_not_full(NEARLY_FULL, &most);
+    [("random", of_random, random), ("most leaves", of_most, most)].map(|(name, says, requests)| {
+        let path = folder.join(name.replace(' ', "-")).with_extension("records");
+        std::fs::write(&path, &requests.bytes).expect("a file can be written there");
+        Input { name, says, path }
+    })
+}
