@@ -49,7 +49,7 @@ use Rattle.requests.proofs.Keeping.{run-holds, ended-holds}
 use Rattle.requests.proofs.Once.{part-one, run-one}
 use Rattle.requests.proofs.Parts.{parts-one}
 use Rattle.printing.specs.Printing.{Lines}
-use Rattle.printing.proofs.Once.{lines-one}
+use Rattle.printing.proofs.Once.{lines-one, lines-then}
 use Rattle.evidence.specs.Known.{Every, knownCases}
 use Rattle.tables.specs.Exactly.{Exactly}
 use Rattle.tables.proofs.Exactness.{Rising, refused-exactly, outcome-under}
@@ -100,8 +100,9 @@ pub record Demand1 : Type 0 where
   -- the parts of an input in turn, however they are cut between records, come to what the run of the whole does
   pub parts : {b out rs p t u given x v y : List ℕ} {n m k C D E : ℕ} → Parts b out rs n C t given → Part p true n C t given m D u x
       → Run (rs ++ p) b out k E v y → (m ≡ k) × (D ≡ E) × (u ≡ v) × (x ≡ y)
-  -- what a run came to is printed in one way
+  -- what a run came to is printed in one way, and blocks in turn are its lines in turn
   pub printed : {given t x y : List ℕ} {D i j k : ℕ} → Ended given D t → Lines given D t i j x → Lines given D t i k y → j ≡ k → x ≡ y
+  pub blocks : {given t x y : List ℕ} {D i j k : ℕ} → Lines given D t i j x → Lines given D t j k y → Lines given D t i k (x ++ y)
 
 -- no call answers 9
 called-under : {k D c n E : ℕ} {b u : List ℕ} → Called k D b c n E u → n < 9
@@ -137,6 +138,7 @@ demand-1 = record {
   run = run-one;
   parts = parts-one;
   printed = λ e. lines-one (ended-holds e);
+  blocks = lines-then;
 }
 
 -- ---- demand 2: numbers name leaves both ways, and the bytes are the paper's

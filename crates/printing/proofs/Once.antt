@@ -1,6 +1,6 @@
--- What is printed has one text: each line's two numbers are settled, and so is the text of two numbers.
-use mathlib.Core.Path.{_≡_, refl, ap₂, subst, subst₂}
-use mathlib.Core.List.{List, _++_}
+-- What is printed has one text, in whatever blocks: each line's two numbers are settled, and so is the text of two numbers.
+use mathlib.Core.Path.{_≡_, refl, ap₂, subst, subst⁻¹, subst₂}
+use mathlib.Core.List.{List, _++_, append-assoc, append-nil}
 use Prim.Native.Nat.{ℕ, _+_, _≤_}
 use native.Mathlib.Omega.{arith}
 use Rattle.panel.specs.Calls.{LeafNumbered}
@@ -36,3 +36,9 @@ module _ {given b : List ℕ} {D : ℕ} (h : Holds D b) where
       let k : i ≡ j = omega (arith, e) in
       let a = numbers-one (subst (λ z. Numbers given D b z x y) k n) o in
       ap₂ (λ s z. s ++ z) (lines-one l m k) (line-one (subst₂ (λ s z. Line s z u) (a .0) (a .1) p) q)
+
+-- blocks in turn are the lines from the first one's first to the last one's last
+pub lines-then : {given b x y : List ℕ} {D i j k : ℕ} → Lines given D b i j x → Lines given D b j k y → Lines given D b i k (x ++ y)
+lines-then {given} {b} {x} {D = D} {i = i} {j = j} l none = subst⁻¹ (Lines given D b i j) (append-nil x) l
+lines-then {given} {b} {x} {D = D} {i = i} l (more {j = j} {t = t} {u = u} m n p) =
+    subst (Lines given D b i (j + 1)) (append-assoc x t u) (more (lines-then l m) n p)
