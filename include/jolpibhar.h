@@ -23,7 +23,10 @@
 #define JOLPIBHAR_VERSION_PATCH 0
 #define JOLPIBHAR_VERSION "0.3.0"
 
-/* The bytes of a panel of depth D, 3 to 17. Where D is a constant it is one too: uint8_t panel[PANEL_BYTES(17)]; */
+/* The depth of the finest panel; the coarsest is of depth 3. */
+#define PANEL_GREATEST_DEPTH 17
+
+/* The bytes of a panel of depth D. Where D is a constant it is one too: uint8_t panel[PANEL_BYTES(PANEL_GREATEST_DEPTH)]; */
 #define PANEL_BYTES(D) ((size_t)1 << ((D) - 1))
 
 #ifdef __cplusplus

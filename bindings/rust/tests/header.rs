@@ -1,4 +1,4 @@
-//! The C header and the crate are one release: they say the same version.
+//! The C header and the crate are one release: they say the same version, and the same greatest depth.
 
 const HEADER: &str = include_str!("../../../include/jolpibhar.h");
 
@@ -17,4 +17,9 @@ fn the_header_says_the_version() {
     assert_eq!(defined("JOLPIBHAR_VERSION"), format!("\"{version}\""));
     let parts = ["MAJOR", "MINOR", "PATCH"].map(|part| defined(&format!("JOLPIBHAR_VERSION_{part}")));
     assert_eq!(parts.join("."), version);
+}
+
+#[test]
+fn the_header_says_the_greatest_depth() {
+    assert_eq!(defined("PANEL_GREATEST_DEPTH"), jolpibhar::GREATEST_DEPTH.to_string());
 }
