@@ -33,6 +33,10 @@ filled-more {given} {b} {D = D} {from = from} {upto = upto} h l m w k a =
       text = subst⁻¹ (Lines given D b from (upto + 1)) (a .1 .all) (more (h .text) w (a .1 .line));
     }
 
+-- bytes that lie within a list, as a part of it is lent by
+pub counts : (n : ℕ) (l : List ℕ) → n ≤ length l → Counts n l
+counts n l h = (h, sym (length-take-le n l h))
+
 -- what stands in the block in the end
 pub filled-counts : {given b block₀ block : List ℕ} {D from n upto size : ℕ} → Filling given b D from block₀ block n upto size → Counts size block
-filled-counts {block = block} {size = size} h = (h .inside, sym (length-take-le size block (h .inside)))
+filled-counts {block = block} {size = size} h = counts size block (h .inside)

@@ -1,12 +1,10 @@
 -- What a run came to can be printed, and a part that isn't full is the last.
-use mathlib.Core.Path.{_≡_, sym, subst}
+use mathlib.Core.Path.{_≡_, subst}
 use mathlib.Core.Bool.{Bool, true, false}
 use mathlib.Core.List.{List}
 use Prim.Native.Nat.{ℕ, _≤_, _<_}
 use native.Mathlib.Omega.{arith}
 use lib.Dec.{ltb}
-use lib.ListN.{length}
-use lib.Seq.{length-take-le}
 use borrow.Author.Tests.{lt-ltb, le-ltb}
 use Rattle.io.specs.Counts.{Counts}
 use Rattle.requests.specs.Requests.{Part, Ended}
@@ -14,6 +12,7 @@ use Rattle.requests.proofs.Keeping.{ended-holds}
 use Rattle.requests.proofs.Parts.{Reading, reading-room}
 use Rattle.printing.specs.Printing.{Lines}
 use Rattle.printing.specs.inner.Showing.{Shown}
+use Rattle.printing.proofs.Filling.{counts}
 
 pub ended-shown : {given t : List ℕ} {D : ℕ} → Ended given D t → Shown given D t
 ended-shown e = record { few = omega (arith, e .all); holds = ended-holds e }
@@ -30,9 +29,6 @@ module _ {p b out t after : List ℕ} {got full n m C D : ℕ} (q : Part p (ltb 
   full-part h = subst (λ e. Part p e n C b out m D t after) (le-ltb got full h) q
 
 -- the answers lie within their buffer
-counts : (n : ℕ) (l : List ℕ) → n ≤ length l → Counts n l
-counts n l h = (h, sym (length-take-le n l h))
-
 pub part-counts : {p b out t after : List ℕ} {ends : Bool} {n m C D : ℕ} → Part p ends n C b out m D t after → Counts m after
 part-counts {after = after} {m = m} q = counts m after (omega (arith, q .all, q .long))
 

@@ -15,7 +15,7 @@ ghost use Rattle.printing.specs.Printing.{lineCount, Lines};
 const PART: usize = 8 * 512;
 
 // Reads the input part by part, to its end or to the limit of records, and works through it.
-fn work(buffer: &mut [u8], answers: &mut [u8]) -> Ran
+fn scan(buffer: &mut [u8], answers: &mut [u8]) -> Ran
     requires { ⌜ mostRecords ≤ length (now answers) ⌝ }
     ensures { λ r. ⌜ Ended (take (r .count) (now (answers .exit))) (r .deep) (now (buffer .exit)) ⌝ }
     ensures { λ r. ⌜ Counts (r .count) (now (answers .exit)) ⌝ }
@@ -67,7 +67,7 @@ fn print(answers: &[u8], buffer: &[u8], deep: usize) -> usize
 fn main() {
     let mut buffer = [0u8; panel::GREATEST_SIZE];
     let mut answers = [0u8; records::MOST_RECORDS];
-    let ran = work(&mut buffer, &mut answers);
+    let ran = scan(&mut buffer, &mut answers);
     let count = ran.count;
     print(&answers[..count], &buffer, ran.deep);
 }

@@ -7,8 +7,8 @@ use borrow.Author.Needs.{needs}
 use Rattle.records.specs.Records.{mostRecords}
 use Rattle.requests.proofs.Parts.{Reading, reading-none, reading-holds, reading-room, reading-grows, reading-more, reading-ended, reading-limit}
 use Rattle.scanner.proofs.Ends.{last-part, full-part, part-counts, reading-counts}
-use Rattle.scanner.proofs.work.Statement.{statement}
-use Rattle.scanner.proofs.work.Tie as tie
+use Rattle.scanner.proofs.scan.Statement.{statement}
+use Rattle.scanner.proofs.scan.Tie as tie
 
 abbrev Inv-loop : tie.InvT-loop
 Inv-loop buffer₀ answers₀ input₀ count₀ deep₀ buffer answers input count deep =
@@ -55,8 +55,8 @@ loop-again c =
 returns-2 : tie.Need-returns-2 Inv-loop μ-loop
 returns-2 c = let h = c .before .loop .inv .0 in (reading-limit h (c .before .before .before .before .pre) (c .loop-test .left), reading-counts h)
 
-pub work-spec : {M : Type 1} → statement M
-work-spec =
+pub scan-spec : {M : Type 1} → statement M
+scan-spec =
     tie.close
     (tie.spec
     Inv-loop
