@@ -1,4 +1,4 @@
--- A table of refusals, and the outcome of a call by it: "The lowest number that applies is answered".
+-- A table of refusals, its rows in the order of testing, and the outcome of a call by it: the first row that applies is answered.
 use mathlib.Core.Path.{_≡_}
 use mathlib.Core.Logic.{_⊎_}
 use mathlib.Core.List.{List, [], _∷_}
@@ -12,6 +12,10 @@ pub record Row : Type 1 where
 -- refused with n unless P holds
 abbrev pub unless : ℕ → Type 0 → Row
 unless n P = record { number = n; passes = P }
+
+-- refused with n where P holds
+abbrev pub when : ℕ → Type 0 → Row
+when n P = unless n (P → ⊥)
 
 -- n is the answer: the number of the first row that does not pass, or 0
 abbrev pub Answers : List Row → ℕ → Type 0
