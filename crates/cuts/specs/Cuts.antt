@@ -45,6 +45,14 @@ pub record Leaf (P : ℕ → Type 0) (n : ℕ) : Type 0 where
   pub uncut : P n → ⊥
   pub parent : P (n / 2)
 
+-- leaf a is an ancestor of node k, and of k and its ancestors no other is a leaf
+pub record LeafAbove (P : ℕ → Type 0) (k a : ℕ) : Type 0 where
+  pub levels : ℕ
+  pub up : 0 < levels
+  pub ancestor : k / 2 ^ levels ≡ a
+  pub leaf : Leaf P a
+  pub only : (j : ℕ) → Leaf P (k / 2 ^ j) → j ≡ levels
+
 -- of the depth-D node N and its ancestors, exactly one is a leaf
 pub record OneLeaf (D : ℕ) (P : ℕ → Type 0) (N : ℕ) : Type 0 where
   pub levels : ℕ
