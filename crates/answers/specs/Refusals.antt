@@ -1,8 +1,9 @@
--- The number and the values that "When the scanner says no" gives to each case of an answer. Beside a refusal every other number is 0.
+-- The number and the values that "When the scanner says no" and 02, W4, give to each case of an answer. Beside a refusal every other number is 0,
+-- but for the ancestor beside 10.
 use Prim.Native.Nat.{ℕ}
 use Rattle.nodes.specs.declared.triples.Triple.{Triple}
 use Rattle.answers.specs.declared.Refusal.{Refusal}
-use Rattle.answers.specs.declared.Refusal.the-variants.{WrongLength, NotGood, NoSuchNode, NotLeaf, AtGreatestDepth, AtDepthOne, LeavesMissing, NoSuchNumber, BadRecord}
+use Rattle.answers.specs.declared.Refusal.the-variants.{WrongLength, NotGood, NoSuchNode, IsCut, AtGreatestDepth, AtDepthOne, LeavesMissing, NoSuchNumber, BadRecord, BelowLeaf, PanelInUse}
 use Rattle.answers.specs.declared.Answer.{Answer}
 use Rattle.answers.specs.declared.Answer.the-variants as answer
 use Rattle.answers.specs.declared.Counted.{Counted}
@@ -19,16 +20,36 @@ abbrev pub refusalNumber : Refusal → ℕ
 refusalNumber WrongLength = 1
 refusalNumber NotGood = 2
 refusalNumber NoSuchNode = 3
-refusalNumber NotLeaf = 4
+refusalNumber IsCut = 4
 refusalNumber AtGreatestDepth = 5
 refusalNumber AtDepthOne = 6
 refusalNumber LeavesMissing = 7
 refusalNumber NoSuchNumber = 8
 refusalNumber BadRecord = 9
+refusalNumber (BelowLeaf k) = 10
+refusalNumber PanelInUse = 18
+
+-- the ancestor beside each: the leaf that the node lies below, and else 0
+abbrev pub refusalAncestor : Refusal → ℕ
+refusalAncestor WrongLength = 0
+refusalAncestor NotGood = 0
+refusalAncestor NoSuchNode = 0
+refusalAncestor IsCut = 0
+refusalAncestor AtGreatestDepth = 0
+refusalAncestor AtDepthOne = 0
+refusalAncestor LeavesMissing = 0
+refusalAncestor NoSuchNumber = 0
+refusalAncestor BadRecord = 0
+refusalAncestor (BelowLeaf k) = k .0
+refusalAncestor PanelInUse = 0
 
 abbrev pub answerNumber : Answer → ℕ
 answerNumber answer.Done = 0
 answerNumber (answer.No e) = refusalNumber e
+
+abbrev pub answerAncestor : Answer → ℕ
+answerAncestor answer.Done = 0
+answerAncestor (answer.No e) = refusalAncestor e
 
 abbrev pub countedNumber : Counted → ℕ
 countedNumber (counted.Leaves n) = 0
@@ -53,6 +74,10 @@ numberedNumber (numbered.No e) = refusalNumber e
 abbrev pub numberedLeaf : Numbered → ℕ
 numberedLeaf (numbered.Number i) = i .0
 numberedLeaf (numbered.No e) = 0
+
+abbrev pub numberedAncestor : Numbered → ℕ
+numberedAncestor (numbered.Number i) = 0
+numberedAncestor (numbered.No e) = refusalAncestor e
 
 abbrev pub aroundNumber : Around → ℕ
 aroundNumber (around.Neighbours t) = 0

@@ -3,19 +3,21 @@ use nodes::LeafNumber;
 use nodes::Node;
 use nodes::Triple;
 ghost use mathlib.Core.Path.{_≡_};
-ghost use Rattle.answers.specs.Refusals.{refusalNumber, answerNumber, countedNumber, countedLeaves, foundNumber, foundNode, numberedNumber, numberedLeaf, aroundNumber, aroundTriple};
+ghost use Rattle.answers.specs.Refusals.{refusalNumber, refusalAncestor, answerNumber, answerAncestor, countedNumber, countedLeaves, foundNumber, foundNode, numberedNumber, numberedLeaf, numberedAncestor, aroundNumber, aroundTriple};
 
-// Why a call is refused, in the order of the customer's table: its numbers 1 to 9.
+// Why a call is refused, in the order of the customer's numbers: 1 to 10, and 18. A node that lies below a leaf is refused with that leaf.
 pub enum Refusal {
     WrongLength,
     NotGood,
     NoSuchNode,
-    NotLeaf,
+    IsCut,
     AtGreatestDepth,
     AtDepthOne,
     LeavesMissing,
     NoSuchNumber,
     BadRecord,
+    BelowLeaf(Node),
+    PanelInUse,
 }
 
 impl Refusal {
@@ -26,12 +28,33 @@ impl Refusal {
             Refusal::WrongLength => 1,
             Refusal::NotGood => 2,
             Refusal::NoSuchNode => 3,
-            Refusal::NotLeaf => 4,
+            Refusal::IsCut => 4,
             Refusal::AtGreatestDepth => 5,
             Refusal::AtDepthOne => 6,
             Refusal::LeavesMissing => 7,
             Refusal::NoSuchNumber => 8,
             Refusal::BadRecord => 9,
+            Refusal::BelowLeaf(_) => 10,
+            Refusal::PanelInUse => 18,
+        }
+    }
+
+    // The ancestor that is returned beside it.
+    pub fn ancestor(self) -> u32
+        ensures { λ r. ⌜ r ≡ refusalAncestor self ⌝ }
+    {
+        match self {
+            Refusal::WrongLength => 0,
+            Refusal::NotGood => 0,
+            Refusal::NoSuchNode => 0,
+            Refusal::IsCut => 0,
+            Refusal::AtGreatestDepth => 0,
+            Refusal::AtDepthOne => 0,
+            Refusal::LeavesMissing => 0,
+            Refusal::NoSuchNumber => 0,
+            Refusal::BadRecord => 0,
+            Refusal::BelowLeaf(k) => k.0,
+            Refusal::PanelInUse => 0,
         }
     }
 }
@@ -48,6 +71,15 @@ impl Answer {
         match self {
             Answer::Done => 0,
             Answer::No(e) => e.number(),
+        }
+    }
+
+    pub fn ancestor(self) -> u32
+        ensures { λ r. ⌜ r ≡ answerAncestor self ⌝ }
+    {
+        match self {
+            Answer::Done => 0,
+            Answer::No(e) => e.ancestor(),
         }
     }
 }
@@ -123,6 +155,15 @@ impl Numbered {
         match self {
             Numbered::Number(i) => i.0,
             Numbered::No(_) => 0,
+        }
+    }
+
+    pub fn ancestor(self) -> u32
+        ensures { λ r. ⌜ r ≡ numberedAncestor self ⌝ }
+    {
+        match self {
+            Numbered::Number(_) => 0,
+            Numbered::No(e) => e.ancestor(),
         }
     }
 }

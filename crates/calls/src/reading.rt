@@ -7,8 +7,8 @@ use nodes::LeafNumber;
 use nodes::Node;
 use panel::judging::Judgement;
 use panel::judging::good_depth;
-ghost use Rattle.answers.specs.Refusals.{countedNumber, countedLeaves, foundNumber, foundNode, numberedNumber, numberedLeaf};
-ghost use Rattle.panel.specs.Calls.{Count, LeafAt, NumberOf, LeafBits};
+ghost use Rattle.answers.specs.Refusals.{countedNumber, countedLeaves, foundNumber, foundNode, numberedNumber, numberedLeaf, numberedAncestor};
+ghost use Rattle.panel.specs.Calls.{Count, LeafAt, Ancestor, NumberOf, LeafBits};
 
 // The leaf count, or refusal 1 or 2.
 pub fn count(panel: &[u8]) -> Counted
@@ -37,9 +37,10 @@ pub fn leaf_at(panel: &[u8], i: LeafNumber) -> Found
     }
 }
 
-// The number of leaf k, or refusal 1, 2, 3 or 4.
+// The number of leaf k, or refusal 1, 2, 3, 4 or 10.
 pub fn number_of(panel: &[u8], k: Node) -> Numbered
     ensures { λ r. ⌜ NumberOf (now (panel .entry)) (k .0) (numberedNumber r) (numberedLeaf r) ⌝ }
+    ensures { λ r. ⌜ Ancestor (now (panel .entry)) (k .0) (numberedNumber r) (numberedAncestor r) ⌝ }
 {
     let j = good_depth(panel);
     match j {

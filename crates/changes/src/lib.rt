@@ -10,15 +10,16 @@ use nodes::Node;
 ghost use mathlib.Core.Path.{_≡_};
 ghost use Prim.Native.Nat.{_<_};
 ghost use Rattle.nodes.specs.Depth.{depthOf};
-ghost use Rattle.answers.specs.Refusals.{answerNumber};
+ghost use Rattle.answers.specs.Refusals.{answerNumber, answerAncestor};
 ghost use Rattle.tables.specs.inner.Says.{Says};
 ghost use Rattle.panel.specs.Panels.{deepOf, Good, InRange};
-ghost use Rattle.panel.specs.Calls.{Split, Together, Merge};
+ghost use Rattle.panel.specs.Calls.{Ancestor, Split, Together, Merge};
 
-// Splits leaf k: 0, or refusal 3, 4 or 5 and no byte written.
+// Splits leaf k: 0, or refusal 3, 4, 10 or 5 and no byte written.
 pub fn split(panel: &mut [u8], deep: usize, k: Node) -> Answer
     requires { ⌜ Good (now panel) × (deep ≡ deepOf (now panel)) ⌝ }
     ensures { λ r. ⌜ Split (now (panel .entry)) (k .0) (answerNumber r) (now (panel .exit)) ⌝ }
+    ensures { λ r. ⌜ Ancestor (now (panel .entry)) (k .0) (answerNumber r) (answerAncestor r) ⌝ }
 {
     let number = number_of(panel, deep, k);
     if let Numbered::No(e) = number {
@@ -50,10 +51,11 @@ fn together(panel: &[u8], deep: usize, k: Node) -> bool
     false
 }
 
-// Merges leaf k: 0, or refusal 3, 4, 6 or 7 and no byte written.
+// Merges leaf k: 0, or refusal 3, 4, 10, 6 or 7 and no byte written.
 pub fn merge(panel: &mut [u8], deep: usize, k: Node) -> Answer
     requires { ⌜ Good (now panel) × (deep ≡ deepOf (now panel)) ⌝ }
     ensures { λ r. ⌜ Merge (now (panel .entry)) (k .0) (answerNumber r) (now (panel .exit)) ⌝ }
+    ensures { λ r. ⌜ Ancestor (now (panel .entry)) (k .0) (answerNumber r) (answerAncestor r) ⌝ }
 {
     let number = number_of(panel, deep, k);
     if let Numbered::No(e) = number {

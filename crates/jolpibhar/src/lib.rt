@@ -1,7 +1,7 @@
 // The calls for C and Rust on a panel: numbers and lent bytes only, the answer's number returned. Each promises what the call behind it does.
 use nodes::LeafNumber;
 use nodes::Node;
-ghost use Rattle.panel.specs.Calls.{Open, Judged, Count, LeafAt, NumberOf, Split, Merge};
+ghost use Rattle.panel.specs.Calls.{Open, Judged, Count, LeafAt, Ancestor, NumberOf, Split, Merge};
 ghost use Rattle.jolpibhar.specs.Parts.{LeafBytes};
 
 // Opens the panel: writes every byte of it, or refuses with 1 and writes none.
@@ -40,13 +40,15 @@ pub extern "C" fn panel_leaf(panel: &[u8], number: u32, node: &mut u32) -> u32
     found.number()
 }
 
-// The leaf number of a node.
+// The leaf number of a node, and beside 10 the leaf above it.
 #[no_mangle]
-pub extern "C" fn panel_number(panel: &[u8], node: u32, number: &mut u32) -> u32
+pub extern "C" fn panel_number(panel: &[u8], node: u32, number: &mut u32, ancestor: &mut u32) -> u32
     ensures { λ r. ⌜ NumberOf (now (panel .entry)) node r (now (number .exit)) ⌝ }
+    ensures { λ r. ⌜ Ancestor (now (panel .entry)) node r (now (ancestor .exit)) ⌝ }
 {
     let numbered = calls::number_of(panel, Node(node));
     *number = numbered.leaf();
+    *ancestor = numbered.ancestor();
     numbered.number()
 }
 
@@ -63,18 +65,24 @@ pub extern "C" fn panel_leaf_bits(panel: &[u8], start: &mut usize, size: &mut us
     number
 }
 
-// Splits a leaf, or refuses and writes no byte.
+// Splits a leaf, or refuses and writes no byte of the panel; beside 10 the leaf above the node.
 #[no_mangle]
-pub extern "C" fn panel_split(panel: &mut [u8], node: u32) -> u32
+pub extern "C" fn panel_split(panel: &mut [u8], node: u32, ancestor: &mut u32) -> u32
     ensures { λ r. ⌜ Split (now (panel .entry)) node r (now (panel .exit)) ⌝ }
+    ensures { λ r. ⌜ Ancestor (now (panel .entry)) node r (now (ancestor .exit)) ⌝ }
 {
-    calls::split(panel, Node(node)).number()
+    let cut = calls::split(panel, Node(node));
+    *ancestor = cut.ancestor();
+    cut.number()
 }
 
-// Merges a leaf, or refuses and writes no byte.
+// Merges a leaf, or refuses and writes no byte of the panel; beside 10 the leaf above the node.
 #[no_mangle]
-pub extern "C" fn panel_merge(panel: &mut [u8], node: u32) -> u32
+pub extern "C" fn panel_merge(panel: &mut [u8], node: u32, ancestor: &mut u32) -> u32
     ensures { λ r. ⌜ Merge (now (panel .entry)) node r (now (panel .exit)) ⌝ }
+    ensures { λ r. ⌜ Ancestor (now (panel .entry)) node r (now (ancestor .exit)) ⌝ }
 {
-    calls::merge(panel, Node(node)).number()
+    let merged = calls::merge(panel, Node(node));
+    *ancestor = merged.ancestor();
+    merged.number()
 }

@@ -1,22 +1,41 @@
--- The way to the first node of depth D below k holds exactly one leaf, so it is k where k is a leaf.
+-- Of two nodes on one way the one with the lesser number is an ancestor of the other. So a leaf on the way to the first node of depth D below k lies
+-- above k, or below it, and then k is cut, or is k.
 use mathlib.Core.Path.{_≡_, sym, ap, ap₂, _∙_, subst, subst⁻¹}
 use mathlib.Core.List.{List}
 use mathlib.Core.Bool.{Bool}
 use Prim.Native.Nat.{ℕ, _+_, _-_, _*_, _/_, _%_, _^_, _≤_, _<_}
+use native.Mathlib.Nat.{div-div-eq-div-mul, div-le-self}
+use native.Mathlib.Decide.{decLe, decLt}
 use native.Mathlib.Omega.{arith}
+use lib.Pow.{pow-add}
 use Rattle.nodes.specs.Depth.{depthOf}
 use Rattle.tables.specs.inner.Says.{Says}
 use Rattle.nodes.proofs.Depths.{At, at-below, at-depth, depth-le, ancestor, at-ancestor}
 use Rattle.nodes.proofs.Limits.{node-small}
-use Rattle.panel.specs.Panels.{deepOf, Good, InRange, LeafOf, numberIn, leafCount}
+use Rattle.cuts.specs.Cuts.{LeafAbove}
+use Rattle.panel.specs.Panels.{deepOf, CutOf, Good, InRange, LeafOf, numberIn, leafCount}
 use Rattle.descents.specs.inner.Descents.{OnWay, Spot}
 use Rattle.leaves.specs.inner.Ways.{OnFirstWay, Ranged}
 use Rattle.sums.proofs.Counts.{at-first}
 use Rattle.cuts.proofs.CutBits.{ancestor-first}
-use Rattle.cuts.proofs.Covering.{ancestor-is}
+use Rattle.cuts.proofs.Covering.{ancestor-is, up-all, is-above, above-no-leaf}
 use Rattle.panel.proofs.Lengths.{fits-small}
-use Rattle.panel.proofs.GoodPanels.{covers, number-root}
+use Rattle.panel.proofs.GoodPanels.{number-root}
 use Rattle.descents.proofs.Downward.{root-spot}
+
+-- on the way up from n, the node j levels up is that many above the one i levels up
+higher : (n i j : ℕ) {x y : ℕ} → i ≤ j → n / 2 ^ i ≡ x → n / 2 ^ j ≡ y → x / 2 ^ (j - i) ≡ y
+higher n i j h e f =
+    ap (λ z. z / 2 ^ (j - i)) (sym e) ∙ div-div-eq-div-mul n (2 ^ i) (2 ^ (j - i))
+    ∙ ap (λ z. n / z) (sym (pow-add 2 i (j - i)) ∙ ap (λ (z : ℕ). 2 ^ z) (let g : i + (j - i) ≡ j = omega arith in g)) ∙ f
+
+-- so the one with the lesser number is the higher one
+higher-lt : (n i j : ℕ) {x y : ℕ} → n / 2 ^ i ≡ x → n / 2 ^ j ≡ y → y < x → i < j
+higher-lt n i j {x} {y} e f h = go (decLe j i)
+  where
+    go : Dec (j ≤ i) → i < j
+    go (yes l) = absurd (omega (arith, higher n j i l f e, div-le-self y (2 ^ (i - j))))
+    go (no l) = omega arith
 
 module _ (s : List ℕ) (G : Good s) (k : ℕ) (R : InRange s k) where
   deep : depthOf k ≤ deepOf s
@@ -30,17 +49,36 @@ module _ (s : List ℕ) (G : Good s) (k : ℕ) (R : InRange s k) where
   unfolding node
   node-at = at-first (deepOf s) (depthOf k) (deepOf s - depthOf k) k (at-depth (omega (arith, R .low))) (omega (arith, deep))
 
-  -- a leaf on the way there is k, where k is a leaf
-  own : (m : ℕ) → LeafOf s m → node / 2 ^ (deepOf s - depthOf m) ≡ m → LeafOf s k → m ≡ k
+  node-own : node / 2 ^ (deepOf s - depthOf k) ≡ k
   unfolding node
-  own m x e y =
-      let c = covers s G node (node-at .low) (at-below node-at) in
-      let f : node / 2 ^ (deepOf s - depthOf k) ≡ k = sym (ancestor-is (deepOf s - depthOf k) node) ∙ ancestor-first (deepOf s - depthOf k) k in
-      let p = c .only (deepOf s - depthOf m) (omega arith) (subst⁻¹ (LeafOf s) e x) in
-      let q = c .only (deepOf s - depthOf k) (omega arith) (subst⁻¹ (LeafOf s) f y) in
-      sym e ∙ ap (λ j. node / 2 ^ j) (p ∙ sym q) ∙ f
+  node-own = sym (ancestor-is (deepOf s - depthOf k) node) ∙ ancestor-first (deepOf s - depthOf k) k
 
-  -- .. as the code shifts to it
+  -- a leaf on the way there lies above k, or below it, and then k is cut
+  above : (m : ℕ) → LeafOf s m → node / 2 ^ (deepOf s - depthOf m) ≡ m → m < k → LeafAbove (CutOf s) k m
+  above m x e h =
+      let i = deepOf s - depthOf k in
+      let j = deepOf s - depthOf m in
+      let l : i < j = higher-lt node i j node-own e h in
+      is-above (G .cuts) (j - i) (omega arith) (higher node i j (omega arith) node-own e) x
+
+  cut : (m : ℕ) → LeafOf s m → node / 2 ^ (deepOf s - depthOf m) ≡ m → k < m → CutOf s k
+  cut m x e h =
+      let i = deepOf s - depthOf k in
+      let j = deepOf s - depthOf m in
+      let l : j < i = higher-lt node j i e node-own h in
+      let a : ancestor (i - j) m ≡ k = ancestor-is (i - j) m ∙ higher node j i (omega arith) e node-own in
+      subst (CutOf s) a (up-all (G .cuts .up) m 1 (i - j) (omega arith) (omega (arith, R .low)) (x .parent))
+
+  -- or it is k, where k is a leaf
+  own : (m : ℕ) → LeafOf s m → node / 2 ^ (deepOf s - depthOf m) ≡ m → LeafOf s k → m ≡ k
+  own m x e l = go (decLt m k) (decLt k m)
+    where
+      go : Dec (m < k) → Dec (k < m) → m ≡ k
+      go (yes h) r = absurd (above-no-leaf (above m x e h) l)
+      go (no q) (yes h) = absurd (l .uncut (cut m x e h))
+      go (no q) (no r) = omega arith
+
+  -- the first node of depth D below k, as the code shifts to it
   module _ {D d : ℕ} (e : D ≡ deepOf s) (f : d ≡ depthOf k) where
     pub shallow : d ≤ D
     shallow = omega (arith, deep)
@@ -64,7 +102,7 @@ module _ (s : List ℕ) (G : Good s) (k : ℕ) (R : InRange s k) where
     unfolding node
     stop-toward {n} {m} h t =
         let o = ap (λ x. x / 2 ^ (deepOf s - depthOf m)) (sym (h ∙ shifted)) ∙ t .over in
-        record { leaf = t .leaf; number = t .number; over = o; own = own m (t .leaf) o }
+        record { leaf = t .leaf; number = t .number; own = own m (t .leaf) o; above = above m (t .leaf) o; cut = cut m (t .leaf) o }
 
 -- whether k is a node of the panel, by the panel's depth
 pub ranged : {s : List ℕ} {D k : ℕ} {r : Bool} → D ≡ deepOf s → Says (Ranged D k) r → Says (InRange s k) r

@@ -8,9 +8,9 @@ use nodes::Node;
 ghost use mathlib.Core.Path.{_≡_};
 ghost use Prim.Native.Nat.{_≤_, _<_};
 ghost use Rattle.tables.specs.inner.Says.{Says};
-ghost use Rattle.answers.specs.Refusals.{numberedNumber, numberedLeaf};
+ghost use Rattle.answers.specs.Refusals.{numberedNumber, numberedLeaf, numberedAncestor};
 ghost use Rattle.panel.specs.Panels.{deepOf, Good, InRange, LeafOf, leafCount};
-ghost use Rattle.panel.specs.Calls.{LeafNumbered, NumberOf};
+ghost use Rattle.panel.specs.Calls.{LeafNumbered, Ancestor, NumberOf};
 ghost use Rattle.leaves.specs.inner.Ways.{OnFirstWay, Ranged};
 
 // Where a descent stops: at a leaf, and its number.
@@ -74,17 +74,22 @@ pub fn is_leaf(panel: &[u8], deep: usize, k: Node) -> bool
     s.node.0 == k.0
 }
 
-// The number of leaf k, or refusal 3 or 4.
+// The number of leaf k, or refusal 3, 4 or 10: the way toward k stops at k, or below it where k is cut, or at the leaf above it.
 pub fn number_of(panel: &[u8], deep: usize, k: Node) -> Numbered
     requires { ⌜ Good (now panel) × (deep ≡ deepOf (now panel)) ⌝ }
     ensures { λ r. ⌜ NumberOf (now (panel .entry)) (k .0) (numberedNumber r) (numberedLeaf r) ⌝ }
+    ensures { λ r. ⌜ Ancestor (now (panel .entry)) (k .0) (numberedNumber r) (numberedAncestor r) ⌝ }
 {
     if !in_range(deep, k) {
         return Numbered::No(Refusal::NoSuchNode);
     }
     let stop = leaf_toward(panel, deep, k);
-    if stop.node.0 != k.0 {
-        return Numbered::No(Refusal::NotLeaf);
+    let leaf = stop.node;
+    if k.0 < leaf.0 {
+        return Numbered::No(Refusal::IsCut);
+    }
+    if leaf.0 < k.0 {
+        return Numbered::No(Refusal::BelowLeaf(leaf));
     }
     let number = stop.number;
     Numbered::Number(number)

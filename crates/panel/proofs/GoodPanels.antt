@@ -1,18 +1,21 @@
 -- The laws of leaf bits, told of a good panel and its words: a word counts the leaf bits set below its node.
-use mathlib.Core.Path.{_≡_, sym, ap, _∙_}
-use mathlib.Core.Logic.{_↔_}
+use mathlib.Core.Path.{_≡_, sym, ap, _∙_, subst}
+use mathlib.Core.Logic.{_⊎_, _↔_}
 use mathlib.Core.List.{List}
 use Prim.Native.Nat.{ℕ, suc, _+_, _-_, _*_, _/_, _^_, _≤_, _<_}
 use native.Mathlib.Omega.{arith}
+use lib.Pow.{pow-mono}
 use Rattle.nodes.specs.Depth.{depthOf}
 use Rattle.nodes.proofs.Depths.{At, at-left, at-depth, depth-le}
 use Rattle.sums.specs.Rank.{rank}
 use Rattle.words.specs.Words.{word, leafBit}
 use Rattle.sums.proofs.Counts.{byNode, sum, leaf-bits, word-sum, word-all}
 use Rattle.cuts.specs.Cuts.{CoverOnce, placeOf}
-use Rattle.panel.specs.Panels.{deepOf, CutOf, Good, InRange, LeafOf, numberIn, leafCount}
-use Rattle.panel.specs.Calls.{LeafNumbered}
+use Rattle.panel.specs.Panels.{deepOf, CutOf, Good, InRange, LeafOf, BelowLeaf, numberIn, leafCount}
+use Rattle.panel.specs.Calls.{LeafNumbered, Fresh}
 use Rattle.panel.proofs.Lengths.{fits-small}
+use Rattle.panel.proofs.SameBytes.{dec-cuts}
+use Rattle.cuts.proofs.Covering as covering
 use Rattle.cuts.proofs.Leaves.{GoodBits, cover-once, leaf-range}
 use Rattle.cuts.proofs.Numbering as numbering
 use Rattle.cuts.proofs.Descent as descent
@@ -31,6 +34,14 @@ module _ (s : List ℕ) (G : Good s) where
 
   pub leaf-in-range : (k : ℕ) → LeafOf s k → InRange s k
   leaf-in-range k l = record { low = l .low; high = leaf-range (deepOf s) (leafBit (deepOf s) s) good-bits k l }
+
+  -- a node from 2 up is a leaf, or is itself cut, or lies below a leaf
+  pub one-of-three : (k : ℕ) → 2 ≤ k → LeafOf s k ⊎ (CutOf s k ⊎ BelowLeaf s k)
+  one-of-three = covering.one-of-three (G .cuts) (dec-cuts G)
+
+  -- node 1 and its children are in every panel
+  first-three : (n : ℕ) → n < 4 → n < 2 ^ (deepOf s + 1)
+  first-three n h = omega (arith, pow-mono {i = 2} {j = deepOf s + 1} (omega (arith, G .fits .low)))
 
   -- ---- what a word says of its node
 
@@ -84,6 +95,10 @@ module _ (s : List ℕ) (G : Good s) where
   count-is : leafCount s ≡ rank (leafBit (deepOf s) s) (2 ^ deepOf s)
   count-is = word-all (deepOf s) s (G .right .sums)
 
+  -- node 1 is cut, so there are at least two leaves
+  pub two-leaves : 2 ≤ leafCount s
+  two-leaves = cut-word 1 (omega arith) (first-three 1 (omega arith)) .0 (G .cuts .root)
+
   -- a leaf's number is below the count, and each number below the count is that of exactly one leaf
   pub number-lt : (k : ℕ) → LeafOf s k → numberIn s k < leafCount s
   number-lt k l = omega (arith, count-is, numbering.number-lt (deepOf s) (leafBit (deepOf s) s) good-bits k l)
@@ -105,3 +120,17 @@ module _ (s : List ℕ) (G : Good s) where
   leaf-areas leaf L =
       ap (total (λ i. 2 ^ (17 - depthOf (leaf i)))) count-is
       ∙ shares (deepOf s) (leafBit (deepOf s) s) good-bits leaf (λ i h. let m = L i (omega (arith, count-is)) in (m .leaf, m .number)) 17 (fits-small (G .fits))
+
+-- a fresh panel has two leaves, 2 and 3: word 1 is the sum of their words
+pub fresh-count : {D : ℕ} {t : List ℕ} → Fresh D t → leafCount t ≡ 2
+fresh-count {t = t} f =
+    let g = f .good in
+    let l = pow-mono {i = 1} {j = deepOf t} (omega (arith, g .fits .low)) in
+    omega (arith, g .right .sums 1 (omega arith) (omega arith), one 2 (omega arith) (omega arith), one 3 (omega arith) (omega arith))
+  where
+    one : (n : ℕ) → 2 ≤ n → n < 4 → word (deepOf t) t n ≡ 1
+    one n l h =
+        let e : 1 ≡ n / 2 = omega arith in
+        let p = subst (CutOf t) e (f .good .cuts .root) in
+        leaf-word-one t (f .good) n (omega arith) (first-three t (f .good) n h) (λ _. p) .0
+        (record { low = l; uncut = λ c. omega (arith, f .cuts n .0 c); parent = p })

@@ -3,11 +3,13 @@ use mathlib.Core.Path.{_≡_, sym, ap, _∙_, subst}
 use mathlib.Core.Logic.{Iff·symm, Iff·trans}
 use mathlib.Core.List.{List, [], _∷_}
 use Prim.Native.Nat.{ℕ, _<_}
+use native.Mathlib.Decide.{ℕ-discrete}
 use Rattle.bits.proofs.Laws.{Bytes}
 use Rattle.tables.specs.Table.{Row, unless, Answers, Outcome}
 use Rattle.tables.proofs.Tables.{answers-one, outcome-one}
 use Rattle.panel.specs.Panels.{sizeOf, Good, leafCount}
-use Rattle.panel.specs.Calls.{panelRows, Judged, Count, LeafBits, LeafNumbered, LeafAt, NumberOf, Fresh, Open, SplitAt, Split, MergeAt, Merge}
+use Rattle.panel.specs.Calls.{panelRows, Judged, Count, LeafBits, LeafNumbered, LeafAt, Ancestor, NumberOf, Fresh, Open, SplitAt, Split, MergeAt, Merge}
+use Rattle.cuts.proofs.Covering.{above-once}
 use Rattle.cuts.proofs.ForcedCuts.{smallest-one}
 use Rattle.panel.proofs.LeafRows.{numberRows, good-past}
 use Rattle.panel.proofs.GoodPanels.{number-once}
@@ -29,6 +31,14 @@ leaf-bits-one s n m t u = outcome-one _ (List ℕ) _ _ (equal (List ℕ) _) (equ
 
 pub number-of-one : (s : List ℕ) (k n m i j : ℕ) → NumberOf s k n i → NumberOf s k m j → (n ≡ m) × (i ≡ j)
 number-of-one s k n m i j = outcome-one _ ℕ _ _ (equal ℕ _) (equal ℕ 0) n m i j
+
+-- beside one answer stands one ancestor
+pub ancestor-one : (s : List ℕ) (k n a b : ℕ) → Ancestor s k n a → Ancestor s k n b → a ≡ b
+ancestor-one s k n a b p q = go (ℕ-discrete n 10)
+  where
+    go : Dec (n ≡ 10) → a ≡ b
+    go (yes e) = above-once (p .leaf e) (q .leaf e)
+    go (no z) = p .none z ∙ sym (q .none z)
 
 -- the same outcome, with more known where it is done
 known : {rows : List Row} {A : Type 0} {Done More Refused : A → Type 0} {n : ℕ} {x : A}

@@ -1,4 +1,4 @@
--- The calls on a lent panel, by the table of "When the scanner says no": s is the panel before the call, n the answer's number.
+-- The calls on a lent panel, by the table of "When the scanner says no" and 02, W4: s is the panel before the call, n the answer's number.
 use mathlib.Core.Path.{_≡_}
 use mathlib.Core.Logic.{_≢_, _⊎_, _↔_}
 use mathlib.Core.List.{List, [], _∷_, _++_}
@@ -6,9 +6,9 @@ use Prim.Native.Nat.{ℕ, _+_, _*_, _/_, _<_}
 use lib.ListN.{length}
 use Rattle.nodes.specs.Depth.{depthOf}
 use Rattle.nodes.specs.Neighbours.{edge}
-use Rattle.tables.specs.Table.{Row, unless, Answers, Outcome}
-use Rattle.cuts.specs.Cuts.{Smallest, sibling}
-use Rattle.panel.specs.Panels.{Fits, deepOf, RightLength, CutOf, Good, InRange, LeafOf, numberIn, leafCount, leafPart}
+use Rattle.tables.specs.Table.{Row, unless, when, Answers, Outcome}
+use Rattle.cuts.specs.Cuts.{Smallest, LeafAbove, sibling}
+use Rattle.panel.specs.Panels.{Fits, deepOf, RightLength, CutOf, Good, InRange, LeafOf, BelowLeaf, numberIn, leafCount, leafPart}
 
 -- ---- calls that read
 
@@ -35,8 +35,14 @@ pub record LeafNumbered (s : List ℕ) (i k : ℕ) : Type 0 where
 abbrev pub LeafAt : List ℕ → ℕ → ℕ → ℕ → Type 0
 LeafAt s i n k = Outcome (panelRows s ++ unless 8 (i < leafCount s) ∷ []) ℕ (LeafNumbered s i) (λ x. x ≡ 0) n k
 
+-- the rows of a call that takes leaf k: 4 where k is itself cut, 10 where an ancestor is the leaf
 abbrev pub leafRows : List ℕ → ℕ → List Row
-leafRows s k = panelRows s ++ unless 3 (InRange s k) ∷ unless 4 (LeafOf s k) ∷ []
+leafRows s k = panelRows s ++ unless 3 (InRange s k) ∷ when 4 (CutOf s k) ∷ when 10 (BelowLeaf s k) ∷ []
+
+-- the ancestor a that such a call returns beside its answer n: that leaf beside 10, and 0 beside everything else
+pub record Ancestor (s : List ℕ) (k n a : ℕ) : Type 0 where
+  pub leaf : n ≡ 10 → LeafAbove (CutOf s) k a
+  pub none : n ≢ 10 → a ≡ 0
 
 -- node k is leaf number i
 abbrev pub NumberOf : List ℕ → ℕ → ℕ → ℕ → Type 0

@@ -7,7 +7,7 @@ use Rattle.nodes.specs.Depth.{depthOf}
 use Rattle.nodes.specs.Limits.{leastDepth, greatestDepth}
 use Rattle.words.specs.Words.{word, leafBit}
 use Rattle.sums.specs.Sums.{Right}
-use Rattle.cuts.specs.Cuts.{Cut, GoodCuts, Leaf, leafNumber}
+use Rattle.cuts.specs.Cuts.{Cut, GoodCuts, Leaf, LeafAbove, leafNumber}
 
 -- the length of a panel of depth D: 2 ^ (D - 1) bytes
 abbrev pub sizeOf : ℕ → ℕ
@@ -45,6 +45,10 @@ pub record InRange (s : List ℕ) (k : ℕ) : Type 0 where
 
 abbrev pub LeafOf : List ℕ → ℕ → Type 0
 LeafOf s k = Leaf (CutOf s) k
+
+-- an ancestor of k is the leaf
+abbrev pub BelowLeaf : List ℕ → ℕ → Type 0
+BelowLeaf s k = (a : ℕ) × LeafAbove (CutOf s) k a
 
 abbrev pub numberIn : List ℕ → ℕ → ℕ
 numberIn s k = leafNumber (deepOf s) (leafBit (deepOf s) s) k

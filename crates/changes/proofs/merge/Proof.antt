@@ -10,15 +10,18 @@ use Rattle.tables.proofs.Tables.{is-done, is-refused}
 use Rattle.panel.specs.Panels.{LeafOf}
 use Rattle.panel.proofs.GoodPanels.{leaf-in-range}
 use Rattle.panel.proofs.LeafRows.{is-leaf}
-use Rattle.panel.proofs.Judgements.{numbered-no, numbered-leaf}
+use Rattle.panel.proofs.Judgements.{no-ancestor, numbered-no, numbered-ancestor, numbered-leaf}
 use Rattle.changes.proofs.merge.Statement.{statement}
 use Rattle.changes.proofs.merge.Tie as tie
 
 leaf : (c : tie.After-enum-told) → let a = c .before .before .before .before .before .args in LeafOf (a .panel .now) (a .k .0)
-leaf c = numbered-leaf (c .before .before .number-of .ensures) (c .enum-told .given .1)
+leaf c = numbered-leaf (c .before .before .number-of .ensures .0) (c .enum-told .given .1)
 
 returns : tie.Need-returns
-returns c = numbered-no (c .before .before .before .number-of .ensures) (c .before .number .given .1) refl
+returns c =
+    let (o, a) = c .before .before .before .number-of .ensures in
+    let e = c .before .number .given .1 in
+    (numbered-no o e refl, numbered-ancestor o a e)
 
 depth-requires : tie.Need-depth-requires
 depth-requires c κs = omega (arith, leaf c .low)
@@ -27,7 +30,7 @@ returns-2 : tie.Need-returns-2
 returns-2 c =
     let l = c .before .before in
     let a = l .before .before .before .before .before in
-    is-refused (omega arith) (is-leaf (a .pre .0) (unless 6 _ ∷ unless 7 _ ∷ []) (leaf l) (inl (λ h. omega (arith, c .before .depth .ensures), refl))) refl
+    (is-refused (omega arith) (is-leaf (a .pre .0) (unless 6 _ ∷ unless 7 _ ∷ []) (leaf l) (inl (λ h. omega (arith, c .before .depth .ensures), refl))) refl, no-ancestor (omega arith))
 
 together-requires : tie.Need-together-requires
 together-requires c κs =
@@ -39,9 +42,11 @@ returns-3 : tie.Need-returns-3
 returns-3 c =
     let t = c .before in
     let d = t .before .before .before in
-    let a = d .before .before .before .before .before .before in
-    is-refused (omega arith)
-    (is-leaf (a .pre .0) (unless 6 _ ∷ unless 7 _ ∷ []) (leaf (d .before)) (inr (omega (arith, d .depth .ensures), inl (t .together .ensures .no (not-true _ (c .if2 .taken)), refl)))) refl
+    let a = d .before .before .before .before .before .before in (
+      is-refused (omega arith)
+          (is-leaf (a .pre .0) (unless 6 _ ∷ unless 7 _ ∷ []) (leaf (d .before)) (inr (omega (arith, d .depth .ensures), inl (t .together .ensures .no (not-true _ (c .if2 .taken)), refl)))) refl,
+      no-ancestor (omega arith),
+    )
 
 merge-leaves-requires : tie.Need-merge-leaves-requires
 merge-leaves-requires c κs =
@@ -56,10 +61,12 @@ returns-4 c =
     let g = w .before .before in
     let t = g .before in
     let d = t .before .before .before in
-    let a = d .before .before .before .before .before .before in
-    is-done
-    (is-leaf (a .pre .0) (unless 6 _ ∷ unless 7 _ ∷ []) (leaf (d .before)) (inr (omega (arith, d .depth .ensures), inr (t .together .ensures .yes (not-false _ (g .if2 .left)), refl))))
-    (w .merge-leaves .ensures)
+    let a = d .before .before .before .before .before .before in (
+      is-done
+          (is-leaf (a .pre .0) (unless 6 _ ∷ unless 7 _ ∷ []) (leaf (d .before)) (inr (omega (arith, d .depth .ensures), inr (t .together .ensures .yes (not-false _ (g .if2 .left)), refl))))
+          (w .merge-leaves .ensures),
+      no-ancestor (omega arith),
+    )
 
 pub merge-spec : {M : Type 1} → statement M
 merge-spec =

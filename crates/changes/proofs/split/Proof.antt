@@ -8,15 +8,18 @@ use Rattle.tables.specs.Table.{unless}
 use Rattle.tables.proofs.Tables.{is-done, is-refused}
 use Rattle.panel.specs.Panels.{LeafOf}
 use Rattle.panel.proofs.LeafRows.{is-leaf}
-use Rattle.panel.proofs.Judgements.{numbered-no, numbered-leaf}
+use Rattle.panel.proofs.Judgements.{no-ancestor, numbered-no, numbered-ancestor, numbered-leaf}
 use Rattle.changes.proofs.split.Statement.{statement}
 use Rattle.changes.proofs.split.Tie as tie
 
 leaf : (c : tie.After-enum-told) → let a = c .before .before .before .before .before .args in LeafOf (a .panel .now) (a .k .0)
-leaf c = numbered-leaf (c .before .before .number-of .ensures) (c .enum-told .given .1)
+leaf c = numbered-leaf (c .before .before .number-of .ensures .0) (c .enum-told .given .1)
 
 returns : tie.Need-returns
-returns c = numbered-no (c .before .before .before .number-of .ensures) (c .before .number .given .1) refl
+returns c =
+    let (o, a) = c .before .before .before .number-of .ensures in
+    let e = c .before .number .given .1 in
+    (numbered-no o e refl, numbered-ancestor o a e)
 
 depth-requires : tie.Need-depth-requires
 depth-requires c κs = omega (arith, leaf c .low)
@@ -25,7 +28,7 @@ returns-2 : tie.Need-returns-2
 returns-2 c =
     let l = c .before .before in
     let a = l .before .before .before .before .before in
-    is-refused (omega arith) (is-leaf (a .pre .0) (unless 5 _ ∷ []) (leaf l) (inl (λ h. omega (arith, c .before .depth .ensures, a .pre .1), refl))) refl
+    (is-refused (omega arith) (is-leaf (a .pre .0) (unless 5 _ ∷ []) (leaf l) (inl (λ h. omega (arith, c .before .depth .ensures, a .pre .1), refl))) refl, no-ancestor (omega arith))
 
 split-leaf-requires : tie.Need-split-leaf-requires
 split-leaf-requires c κs =
@@ -38,7 +41,7 @@ returns-3 c =
     let w = c .before .before in
     let d = w .before .before .before in
     let a = d .before .before .before .before .before .before in
-    is-done (is-leaf (a .pre .0) (unless 5 _ ∷ []) (leaf (d .before)) (inr (omega (arith, d .depth .ensures, a .pre .1), refl))) (w .split-leaf .ensures)
+    (is-done (is-leaf (a .pre .0) (unless 5 _ ∷ []) (leaf (d .before)) (inr (omega (arith, d .depth .ensures, a .pre .1), refl))) (w .split-leaf .ensures), no-ancestor (omega arith))
 
 pub split-spec : {M : Type 1} → statement M
 split-spec =
