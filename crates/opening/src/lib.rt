@@ -34,7 +34,7 @@ fn clear(bytes: &mut [u8])
 }
 
 // Writes the good panel whose only cut is node 1: its leaves are 2 and 3.
-fn make_fresh(panel: &mut [u8], deep: usize)
+pub fn make_fresh(panel: &mut [u8], deep: usize)
     requires { ⌜ Fits (now panel) deep ⌝ }
     ensures { λ _. ⌜ Fresh deep (now (panel .exit)) ⌝ }
 {

@@ -7,12 +7,12 @@ use Rattle.panel.specs.Calls.{LeafNumbered}
 use Rattle.panel.proofs.GoodPanels.{number-once}
 use Rattle.steps.specs.Steps.{panelIn}
 use Rattle.steps.specs.Holding.{Holds}
+use Rattle.steps.proofs.Parts.{is-open}
 use Rattle.lines.specs.Lines.{Line}
 use Rattle.lines.proofs.Texts.{line-one}
 use Rattle.printing.specs.Printing.{Numbers, Lines}
 use Rattle.printing.specs.Printing.Numbers.{answer, leaf}
 use Rattle.printing.specs.Printing.Lines.{none, more}
-use Rattle.printing.proofs.Showing.{is-open}
 
 module _ {given b : List ℕ} {D : ℕ} (h : Holds D b) where
   numbers-one : {j x y v w : ℕ} → Numbers given D b j x y → Numbers given D b j v w → (x ≡ v) × (y ≡ w)

@@ -1,30 +1,19 @@
 -- What the lines of a run speak of: the part that the code lends is the open panel's, and its leaves are few.
-use mathlib.Core.Path.{_≡_, refl, sym, ap, _∙_, subst}
-use mathlib.Core.Logic.{_≢_}
+use mathlib.Core.Path.{_≡_, subst}
 use mathlib.Core.List.{List}
-use Prim.Native.Nat.{ℕ, zero, suc, _+_, _^_, _<_}
+use Prim.Native.Nat.{ℕ, _+_, _^_, _<_}
 use native.Mathlib.Nat.{pow-le-pow-right}
 use native.Mathlib.Omega.{arith}
 use lib.ListN.{length, take}
 use Rattle.words.proofs.Slots.{wide, word-lt}
-use Rattle.panel.specs.Panels.{sizeOf, leafCount, deepOf}
+use Rattle.panel.specs.Panels.{sizeOf, deepOf}
 use Rattle.panel.specs.Calls.{LeafNumbered}
-use Rattle.steps.specs.Steps.{panelIn}
+use Rattle.steps.specs.Steps.{panelIn, leavesIn}
 use Rattle.steps.specs.Holding.{Holds}
 use Rattle.steps.proofs.Answering.{lent-small}
-use Rattle.printing.specs.Printing.{leavesIn, Numbers}
+use Rattle.steps.proofs.Parts.{leaves-open, is-open}
+use Rattle.printing.specs.Printing.{Numbers}
 use Rattle.printing.specs.Printing.Numbers.{leaf}
-
--- where a panel is open its leaves are printed, and else none
-pub leaves-open : (D : ℕ) (b : List ℕ) → D ≢ 0 → leavesIn D b ≡ leafCount (panelIn D b)
-leaves-open zero b z = absurd (z refl)
-leaves-open (suc d) b z = refl
-
-pub leaves-none : (D : ℕ) (b : List ℕ) → D ≡ 0 → leavesIn D b ≡ 0
-leaves-none D b e = ap (λ d. leavesIn d b) e
-
-pub is-open : (D i : ℕ) (b : List ℕ) → i < leavesIn D b → D ≢ 0
-is-open D i b h e = omega (arith, leaves-none D b e, h)
 
 -- the code's leaf i: the part lent is as long as the panel
 pub leaf-numbers : {given b : List ℕ} {D i j k n : ℕ} → j ≡ length given + i → i < leavesIn D b → n ≡ sizeOf D → LeafNumbered (take n b) i k → Numbers given D b j i k
@@ -36,7 +25,3 @@ few-leaves {D} {i} {b} h l =
     let z = is-open D i b l in
     let s = panelIn D b in
     omega (arith, l, leaves-open D b z, word-lt (deepOf s) s 1, pow-le-pow-right {n = 2} (omega arith) {i = wide (deepOf s) 1} {j = 32} (omega (arith, lent-small h z, h .deep z)))
-
--- the code's count: that of the part lent
-pub leaves-count : {D n : ℕ} (b : List ℕ) → D ≢ 0 → n ≡ sizeOf D → leavesIn D b ≡ leafCount (take n b)
-leaves-count {D} b z e = leaves-open D b z ∙ ap (λ x. leafCount (take x b)) (sym e)

@@ -2,19 +2,13 @@
 -- leaf prints one line, its leaf number and its node. `given` are the answers; b is the buffer, with the panel of depth D at its start, or none where D is 0.
 use mathlib.Core.Path.{_≡_}
 use mathlib.Core.List.{List, [], _++_}
-use Prim.Native.Nat.{ℕ, zero, suc, _+_, _<_}
+use Prim.Native.Nat.{ℕ, _+_, _<_}
 use lib.ListN.{length, getD}
-use Rattle.panel.specs.Panels.{leafCount}
 use Rattle.panel.specs.Calls.{LeafNumbered}
-use Rattle.steps.specs.Steps.{panelIn}
+use Rattle.steps.specs.Steps.{panelIn, leavesIn}
 use Rattle.lines.specs.Lines.{Line}
 
--- how many leaves are printed
-abbrev pub leavesIn : ℕ → List ℕ → ℕ
-leavesIn zero b = 0
-leavesIn (suc d) b = leafCount (panelIn (suc d) b)
-
--- how many lines
+-- how many lines: one for each answer and one for each leaf
 abbrev pub lineCount : List ℕ → ℕ → List ℕ → ℕ
 lineCount given D b = length given + leavesIn D b
 

@@ -34,11 +34,7 @@ pub fn line_count(answers: &[u8], buffer: &[u8], deep: usize) -> usize
     requires { ⌜ Shown (now answers) deep (now buffer) ⌝ }
     ensures { λ r. ⌜ r ≡ lineCount (now (answers .entry)) deep (now (buffer .entry)) ⌝ }
 {
-    if deep == 0 {
-        return answers.len();
-    }
-    let len = panel::size(deep);
-    answers.len() + leaves::count(&buffer[..len], deep) as usize
+    answers.len() + steps::leaf_count(buffer, deep) as usize
 }
 
 // The two numbers of line j: a record's number from 1 and its answer, and behind all those a leaf's number and its node.

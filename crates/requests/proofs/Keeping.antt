@@ -1,7 +1,7 @@
 -- What every run keeps, as each of its records does: the open panel stays good. Before the first accepted open no panel is open.
 use mathlib.Core.Path.{_≡_, refl, _∙_, subst}
 use mathlib.Core.Logic.{_≢_}
-use mathlib.Core.List.{List, [], _∷_}
+use mathlib.Core.List.{List, [], _∷_, _++_}
 use Prim.Native.Nat.{ℕ, _<_}
 use native.Mathlib.Omega.{arith}
 use lib.ListN.{length, getD, length-append, List·getD-append}
@@ -26,25 +26,35 @@ run-holds {b = b} r = runs-holds (holds-none b) (r .runs)
 pub ended-holds : {given t : List ℕ} {D : ℕ} → Ended given D t → Holds D t
 ended-holds e = runs-holds (holds-none (e .before)) (e .runs)
 
+-- ---- records of a kind that are refused
+
+-- none of the first records is an accepted call of kind c
+abbrev pub NoneDone : ℕ → List ℕ → List ℕ → Type 0
+NoneDone c rs given = (i : ℕ) → i < length given → Fine (recordAt rs i) → kind (recordAt rs i) ≡ c → getD given i 0 ≢ 0
+
+module _ {c : ℕ} (rs g : List ℕ) (n : ℕ) (h : NoneDone c rs (g ++ (n ∷ []))) where
+  -- the last is none ..
+  pub last-none : Fine (recordAt rs (length g)) → kind (recordAt rs (length g)) ≡ c → n ≢ 0
+  last-none f k e = h (length g) (omega (arith, length-append g (n ∷ []))) f k (getD-append-seam g n [] 0 ∙ e)
+
+  -- .. and neither is one before it
+  pub before-none : NoneDone c rs g
+  before-none i b f k e = h i (omega (arith, length-append g (n ∷ []))) f k (List·getD-append g (n ∷ []) 0 i b ∙ e)
+
 -- ---- before the first accepted open
 
--- none of the first records is an open that was accepted
-abbrev pub NoneOpened : List ℕ → List ℕ → Type 0
-NoneOpened rs given = (i : ℕ) → i < length given → Fine (recordAt rs i) → kind (recordAt rs i) ≡ 0 → getD given i 0 ≢ 0
-
--- then no panel is open, and every byte is as before
-pub none-opened : {rs b given u : List ℕ} {D : ℕ} → Runs rs 0 b given D u → NoneOpened rs given → (D ≡ 0) × (u ≡ b)
+-- no panel is open, and every byte is as before
+pub none-opened : {rs b given u : List ℕ} {D : ℕ} → Runs rs 0 b given D u → NoneDone 0 rs given → (D ≡ 0) × (u ≡ b)
 none-opened none h = (refl, refl)
 none-opened {rs} (more {given = g} {t = t} {u = u} {E = E} {n = n} r s y) h =
-    let l = length-append g (n ∷ []) in
-    let i = none-opened r (λ i b f k e. h i (omega arith) f k (List·getD-append g (n ∷ []) 0 i b ∙ e)) in
+    let i = none-opened r (before-none rs g n h) in
     let o = subst (λ x. Step (recordAt rs (length g)) x t n E u) (i .0) s in
-    let k = step-refused o (step-none o (λ f k e. h (length g) (omega arith) f k (getD-append-seam g n [] 0 ∙ e))) in
+    let k = step-refused o (step-none o (last-none rs g n h)) in
     (k .0, k .1 ∙ i .1)
 
 -- and split and merge answer 1
 pub before-first-open :
-    {rs b given u v : List ℕ} {D n E : ℕ} → Runs rs 0 b given D u → NoneOpened rs given
+    {rs b given u v : List ℕ} {D n E : ℕ} → Runs rs 0 b given D u → NoneDone 0 rs given
     → Step (recordAt rs (length given)) D u n E v → Fine (recordAt rs (length given)) → kind (recordAt rs (length given)) ≢ 0
     → n ≡ 1
 before-first-open r h s = step-first (none-opened r h .0) s

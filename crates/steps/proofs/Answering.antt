@@ -1,29 +1,22 @@
 -- How each `return` of a record's call makes the outcome that `Called` names: the part that the code lends is the panel's.
 use mathlib.Core.Path.{_≡_, refl, sym, subst, subst₂}
-use mathlib.Core.Logic.{_≢_, inl}
+use mathlib.Core.Logic.{_≢_, inl, inr}
 use mathlib.Core.List.{List, [], _++_}
-use Prim.Native.Nat.{ℕ, zero, suc, _≤_, _<_}
+use Prim.Native.Nat.{ℕ, zero, suc, _≤_}
 use native.Mathlib.Omega.{arith}
 use lib.ListN.{length, take, drop}
-use Rattle.nodes.specs.Limits.{greatestDepth}
-use Rattle.answers.specs.declared.Refusal.{Refusal}
-use Rattle.answers.specs.declared.Refusal.the-variants.{WrongLength, NotGood, NoSuchNode, NotLeaf, AtGreatestDepth, AtDepthOne, LeavesMissing, NoSuchNumber, BadRecord}
-use Rattle.answers.specs.declared.Answer.{Answer}
-use Rattle.answers.specs.declared.Answer.the-variants.{Done, No}
-use Rattle.answers.specs.Refusals.{refusalNumber, answerNumber}
-use Rattle.answers.proofs.Refusing.{refusal-pos, arm-done, arm-no}
-use Rattle.tables.proofs.Tables.{is-refused}
+use Rattle.tables.proofs.Tables.{is-done, is-refused}
 use Rattle.panel.specs.Panels.{sizeOf, Fits, deepOf, Good}
-use Rattle.panel.specs.Calls.{Open, Split, Merge}
+use Rattle.panel.specs.Calls.{Fresh, Split, Merge}
 use Rattle.panel.proofs.Lengths.{fits-small}
 use Rattle.records.specs.Records.{kind, number, Fine}
-use Rattle.steps.specs.Steps.{panelIn, changed, Called, Step}
+use Rattle.steps.specs.Steps.{panelIn, changed, leavesIn, Called, Step}
 use Rattle.steps.specs.Steps.Called.{opened, refused, split, merge}
 use Rattle.steps.specs.Steps.Step.{call}
 use Rattle.steps.specs.inner.Changing.{Change}
 use Rattle.steps.specs.inner.Changing.Change.{split as splits, merge as merges}
 use Rattle.steps.specs.Holding.{Holds}
-use Rattle.steps.proofs.Parts.{no-room, none-right, same-changed, held-fits, held-inside}
+use Rattle.steps.proofs.Parts.{inside, none-right, held-fits}
 
 -- ---- open
 
@@ -32,27 +25,13 @@ pub called-kept : {k D c n m E : ℕ} {b u : List ℕ} → (n ≡ m) × (E ≡ D
 called-kept {k} {D} {c} {b = b} {u = u} e p = subst₂ (λ x y. Called k D b c x y u) (sym (e .0)) (sym (e .1)) p
 
 -- the bytes fit no panel of the asked depth
-not-open : (k D : ℕ) (b : List ℕ) → (Fits (panelIn k b) k → ⊥) → Called k D b 0 1 D b
+pub not-open : (k D : ℕ) (b : List ℕ) → (Fits (panelIn k b) k → ⊥) → Called k D b 0 1 D b
 not-open k D b f = refused {t = panelIn k b} (is-refused (λ e. omega arith) (inl (f, refl)) refl) (λ e. omega arith)
 
-pub too-deep : (k D : ℕ) (b : List ℕ) → greatestDepth < k → Called k D b 0 1 D b
-too-deep k D b h = not-open k D b (λ f. omega (arith, f .high))
-
-pub too-short : (k D : ℕ) (b : List ℕ) → length b < sizeOf k → Called k D b 0 1 D b
-too-short k D b h = not-open k D b (no-room k b h)
-
-module _ (k D n : ℕ) (b t : List ℕ) (e : n ≡ sizeOf k) where
-  pub open-done : {a : Answer} → Open (take n b) k (answerNumber a) t → a ≡ Done → Called k D b 0 0 k (t ++ drop n b)
-  open-done p h =
-      let q = arm-done (λ m. Open (take n b) k m t) p h in
-      subst (λ x. Called k D b 0 0 k (t ++ drop x b)) (sym e) (opened (subst (λ x. Open (take x b) k 0 t) e q))
-
-  pub open-no : {a : Answer} {r : Refusal} → Open (take n b) k (answerNumber a) t → a ≡ No r → Called k D b 0 (refusalNumber r) D (t ++ drop n b)
-  open-no {r = r} p h =
-      let q = subst (λ x. Open (take x b) k (refusalNumber r) t) e (arm-no (λ m. Open (take n b) k m t) p h) in
-      let z = refusal-pos r in
-      subst (λ x. Called k D b 0 (refusalNumber r) D (t ++ drop x b)) (sym e)
-      (subst (Called k D b 0 (refusalNumber r) D) (sym (same-changed k b t (q .refused z))) (refused q z))
+-- they do, and the part that is lent is theirs
+pub open-done : {k D n : ℕ} {b t : List ℕ} → n ≡ sizeOf k → Fits (panelIn k b) k → leavesIn D b ≤ 2 → Fresh k t → Called k D b 0 0 k (t ++ drop n b)
+open-done {k} {D} {b = b} {t = t} e f l q =
+    subst (λ x. Called k D b 0 0 k (t ++ drop x b)) (sym e) (opened (is-done (inr (f, refl)) q) l)
 
 -- ---- split and merge
 
@@ -83,33 +62,24 @@ lent-called {k} {D} {c} {m} {b = b} {t = t} e p =
 
 -- ---- what the judged calls ask of the part that is lent
 
+module _ {D : ℕ} (b : List ℕ) (f : Fits (panelIn D b) D) (n : ℕ) (e : n ≡ sizeOf D) where
+  pub fits-inside : n ≤ length b
+  fits-inside = omega (arith, inside D b (f .long))
+
+  pub fits-lent : Fits (take n b) D
+  fits-lent = subst (λ x. Fits (take x b) D) (sym e) f
+
 module _ {D : ℕ} {b : List ℕ} (h : Holds D b) (z : D ≢ 0) where
   pub lent-small : D ≤ 17
   lent-small = fits-small (held-fits h z)
 
   pub lent-inside : (n : ℕ) → n ≡ sizeOf D → n ≤ length b
-  lent-inside n e = omega (arith, held-inside h z)
+  lent-inside = fits-inside b (held-fits h z)
 
   pub lent-good : (n : ℕ) → n ≡ sizeOf D → Good (take n b) × (D ≡ deepOf (take n b))
   lent-good n e = subst (λ x. Good (take x b) × (D ≡ deepOf (take x b))) (sym e) (h .good z, h .deep z)
 
 -- ---- the record
-
--- an answer's number is written as a byte
-pub answer-byte : (a : Answer) → answerNumber a < 256
-answer-byte Done = omega arith
-answer-byte (No r) = refusal-byte r
-  where
-    refusal-byte : (r : Refusal) → refusalNumber r < 256
-    refusal-byte WrongLength = omega arith
-    refusal-byte NotGood = omega arith
-    refusal-byte NoSuchNode = omega arith
-    refusal-byte NotLeaf = omega arith
-    refusal-byte AtGreatestDepth = omega arith
-    refusal-byte AtDepthOne = omega arith
-    refusal-byte LeavesMissing = omega arith
-    refusal-byte NoSuchNumber = omega arith
-    refusal-byte BadRecord = omega arith
 
 pub step-call : {r b u : List ℕ} {k D c n E : ℕ} → Fine r → k ≡ number r → c ≡ kind r → Called k D b c n E u → Step r D b n E u
 step-call {r} {b} {u} {D = D} {n = n} {E = E} f e h p = call f (subst₂ (λ x y. Called x D b y n E u) e h p)

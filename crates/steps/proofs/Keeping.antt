@@ -11,16 +11,18 @@ use Rattle.tables.specs.Table.{Row, Outcome}
 use Rattle.panel.specs.Panels.{sizeOf, Fits, deepOf, Good}
 use Rattle.records.specs.Records.{kind, number, Fine}
 use Rattle.steps.specs.Steps.{panelIn, changed, Called, Step}
-use Rattle.steps.specs.Steps.Called.{opened, refused, split, merge}
+use Rattle.steps.specs.Steps.Called.{opened, refused, in-use, split, merge}
 use Rattle.steps.specs.Steps.Step.{bad, call}
 use Rattle.steps.specs.Holding.{Holds}
+use Rattle.steps.proofs.Exactness.{open-answers}
 use Rattle.steps.proofs.Parts.{no-room, none-right, panel-changed, same-changed, held-length}
 
 -- ---- a refusal changes nothing
 
 called-refused : {k D c n E : ℕ} {b u : List ℕ} → Called k D b c n E u → n ≢ 0 → (E ≡ D) × (u ≡ b)
-called-refused (opened p) z = absurd (z refl)
+called-refused (opened p l) z = absurd (z refl)
 called-refused (refused p z) _ = (refl, refl)
+called-refused (in-use f l) _ = (refl, refl)
 called-refused {D = D} {b = b} (split {t = t} p) z = (refl, same-changed D b t (p .refused z))
 called-refused {D = D} {b = b} (merge {t = t} p) z = (refl, same-changed D b t (p .refused z))
 
@@ -57,10 +59,11 @@ held-changed {D = suc d} {b = b} t h f =
     holds-changed (suc d) b t (g .0) (ap (λ x. depthOf x + 1) (g .1) ∙ sym (h .deep z)) (g .1 ∙ held-length h z)
 
 called-holds : {k D c n E : ℕ} {b u : List ℕ} → Holds D b → Called k D b c n E u → Holds E u
-called-holds {k} {b = b} h (opened {t = t} p) =
+called-holds {k} {b = b} h (opened {t = t} p l) =
     let f = p .done refl in
     holds-changed k b t (f .good) (f .deep) (subst (Fits t) (f .deep) (f .good .fits) .long)
 called-holds h (refused p z) = h
+called-holds h (in-use f l) = h
 called-holds h (split {t = t} p) = held-changed t h (λ g. stays g (λ d. (d .good, d .long)) p)
 called-holds h (merge {t = t} p) = held-changed t h (λ g. stays g (λ d. (d .good, d .long)) p)
 
@@ -72,8 +75,7 @@ step-holds h (call f p) = called-holds h p
 
 -- an open answers 1 where the buffer's bytes fit no panel of the asked depth ..
 pub open-refused : {k D n E : ℕ} {b u : List ℕ} → Called k D b 0 n E u → (Fits (panelIn k b) k → ⊥) → n ≡ 1
-open-refused (opened p) f = ⊎-elim (λ a. a .1) (λ a. absurd (f (a .0))) (p .answer)
-open-refused (refused p z) f = ⊎-elim (λ a. a .1) (λ a. absurd (f (a .0))) (p .answer)
+open-refused p f = ⊎-elim (λ a. a .1) (λ a. absurd (f (a .0))) (open-answers p)
 
 -- .. as where the lent buffer is shorter than such a panel
 pub short-refused : {k D n E : ℕ} {b u : List ℕ} → Called k D b 0 n E u → length b < sizeOf k → n ≡ 1
@@ -83,8 +85,9 @@ short-refused {k} {b = b} p h = open-refused p (no-room k b h)
 
 -- split and merge answer 1
 called-none : {k c n E : ℕ} {b u : List ℕ} → Called k 0 b c n E u → c ≢ 0 → n ≡ 1
-called-none (opened p) z = absurd (z refl)
+called-none (opened p l) z = absurd (z refl)
 called-none (refused p y) z = absurd (z refl)
+called-none (in-use f l) z = absurd (z refl)
 called-none (split p) z = ⊎-elim (λ a. a .1) (λ a. absurd (none-right (a .0))) (p .answer)
 called-none (merge p) z = ⊎-elim (λ a. a .1) (λ a. absurd (none-right (a .0))) (p .answer)
 

@@ -1,16 +1,17 @@
 -- The part of the lent buffer that the code hands on: the panel at its start.
-use mathlib.Core.Path.{_≡_, sym, ap, _∙_, subst}
+use mathlib.Core.Path.{_≡_, refl, sym, ap, _∙_, subst}
 use mathlib.Core.Logic.{_≢_}
 use mathlib.Core.List.{List, [], _++_}
-use Prim.Native.Nat.{ℕ, _≤_, _<_}
+use Prim.Native.Nat.{ℕ, zero, suc, _≤_, _<_}
 use native.Mathlib.Decide.{decLt}
 use native.Mathlib.Omega.{arith}
-use lib.ListN.{length, getD, drop, length-take, take-append-drop, List·getD-append, List·getD-eq-default}
-use lib.Seq.{take-at}
+use lib.ListN.{length, getD, take, drop, length-take, take-append-drop, List·getD-append, List·getD-eq-default}
+use lib.Seq.{length-take-le, take-at}
 use Rattle.bits.specs.Bits.{Bytes}
-use Rattle.panel.specs.Panels.{sizeOf, Fits, RightLength}
+use Rattle.nodes.specs.Limits.{leastDepth, greatestDepth}
+use Rattle.panel.specs.Panels.{sizeOf, Fits, RightLength, leafCount}
 use Rattle.panel.proofs.Lengths.{length-least}
-use Rattle.steps.specs.Steps.{panelIn, changed}
+use Rattle.steps.specs.Steps.{panelIn, changed, leavesIn}
 use Rattle.steps.specs.Holding.{Holds}
 
 -- ---- the panel at the start of the buffer
@@ -24,7 +25,11 @@ module _ (D : ℕ) (b : List ℕ) where
   pub inside : length (panelIn D b) ≡ sizeOf D → sizeOf D ≤ length b
   inside e = omega (arith, length-take (sizeOf D) b)
 
-  -- a buffer that is too short fits no panel of that depth
+  -- a buffer that is long enough fits a panel of that depth ..
+  pub room : leastDepth ≤ D → D ≤ greatestDepth → sizeOf D ≤ length b → Fits (panelIn D b) D
+  room l h e = record { low = l; high = h; long = length-take-le (sizeOf D) b e }
+
+  -- .. and one that is too short fits none
   pub no-room : length b < sizeOf D → Fits (panelIn D b) D → ⊥
   no-room h f = omega (arith, inside (f .long))
 
@@ -52,5 +57,23 @@ module _ {D : ℕ} {b : List ℕ} (h : Holds D b) (z : D ≢ 0) where
   pub held-length : length (panelIn D b) ≡ sizeOf D
   held-length = held-fits .long
 
-  pub held-inside : sizeOf D ≤ length b
-  held-inside = inside D b held-length
+-- ---- the leaves of the open panel
+
+pub leaves-none : (D : ℕ) (b : List ℕ) → D ≡ 0 → leavesIn D b ≡ 0
+leaves-none D b e = ap (λ d. leavesIn d b) e
+
+pub leaves-open : (D : ℕ) (b : List ℕ) → D ≢ 0 → leavesIn D b ≡ leafCount (panelIn D b)
+leaves-open zero b z = absurd (z refl)
+leaves-open (suc d) b z = refl
+
+-- where there are leaves, a panel is open
+pub is-open : (D i : ℕ) (b : List ℕ) → i < leavesIn D b → D ≢ 0
+is-open D i b h e = omega (arith, leaves-none D b e, h)
+
+-- the code's count: that of the part lent
+pub leaves-count : {D n : ℕ} (b : List ℕ) → D ≢ 0 → n ≡ sizeOf D → leavesIn D b ≡ leafCount (take n b)
+leaves-count {D} b z e = leaves-open D b z ∙ ap (λ x. leafCount (take x b)) (sym e)
+
+-- the panel put into the buffer is the open one
+pub leaves-changed : (D : ℕ) (b t : List ℕ) → D ≢ 0 → length t ≡ sizeOf D → leavesIn D (changed D b t) ≡ leafCount t
+leaves-changed D b t z e = leaves-open D (changed D b t) z ∙ ap leafCount (panel-changed D b t e)

@@ -1,11 +1,11 @@
--- One request record on a lent buffer, by "The request file". b is the lent buffer; D is the depth of the panel that is open
+-- One request record on a lent buffer, by "The request file" and 02, W4. b is the lent buffer; D is the depth of the panel that is open
 -- at the buffer's start, and 0 where none is.
 use mathlib.Core.Logic.{_≢_}
 use mathlib.Core.List.{List, _++_}
-use Prim.Native.Nat.{ℕ}
+use Prim.Native.Nat.{ℕ, zero, suc, _≤_, _<_}
 use lib.ListN.{take, drop}
 use Rattle.records.specs.Records.{kind, number, Fine}
-use Rattle.panel.specs.Panels.{sizeOf}
+use Rattle.panel.specs.Panels.{sizeOf, Fits, leafCount}
 use Rattle.panel.specs.Calls.{Open, Split, Merge}
 
 -- the bytes that a panel of depth D takes in the buffer, or all where they are too few
@@ -16,12 +16,20 @@ panelIn D b = take (sizeOf D) b
 abbrev pub changed : ℕ → List ℕ → List ℕ → List ℕ
 changed D b t = t ++ drop (sizeOf D) b
 
--- the call of this kind with depth or node k answers n, and leaves the panel of depth E in the buffer u. Its answer is that of the call on
--- the panel's bytes: where none is open there are no bytes, and their length is wrong for every depth
+-- how many leaves the open panel has, and 0 where none is open
+abbrev pub leavesIn : ℕ → List ℕ → ℕ
+leavesIn zero b = 0
+leavesIn (suc d) b = leafCount (panelIn (suc d) b)
+
+-- the call of this kind with depth or node k answers n, and leaves the panel of depth E in the buffer u. Its answer is 18, or that of the
+-- call on the panel's bytes: where none is open there are no bytes, and their length is wrong for every depth
 pub data Called (k D : ℕ) (b : List ℕ) : ℕ → ℕ → ℕ → List ℕ → Type 0 where
-  opened : {t : List ℕ} → Open (panelIn k b) k 0 t → Called k D b 0 0 k (changed k b t)
+  -- an open is done over no panel, or over one of two leaves
+  opened : {t : List ℕ} → Open (panelIn k b) k 0 t → leavesIn D b ≤ 2 → Called k D b 0 0 k (changed k b t)
   -- a refused open keeps the panel before it
   refused : {n : ℕ} {t : List ℕ} → Open (panelIn k b) k n t → n ≢ 0 → Called k D b 0 n D b
+  -- 18 is tested after 1: the open would be done, but the open panel has more than two leaves. It is kept
+  in-use : Fits (panelIn k b) k → 2 < leavesIn D b → Called k D b 0 18 D b
   split : {n : ℕ} {t : List ℕ} → Split (panelIn D b) k n t → Called k D b 1 n D (changed D b t)
   merge : {n : ℕ} {t : List ℕ} → Merge (panelIn D b) k n t → Called k D b 2 n D (changed D b t)
 

@@ -6,8 +6,9 @@ use panel::size;
 ghost use mathlib.Core.Path.{_≡_};
 ghost use Prim.Native.Nat.{_≤_};
 ghost use Rattle.answers.specs.Refusals.{refusalNumber, answerNumber};
-ghost use Rattle.panel.specs.Panels.{deepOf, Good};
-ghost use Rattle.steps.specs.Steps.{Called, Step};
+ghost use Rattle.tables.specs.inner.Says.{Says};
+ghost use Rattle.panel.specs.Panels.{Fits, deepOf, Good};
+ghost use Rattle.steps.specs.Steps.{panelIn, leavesIn, Called, Step};
 ghost use Rattle.steps.specs.inner.Changing.{Change};
 ghost use Rattle.steps.specs.Holding.{Holds};
 
@@ -27,25 +28,49 @@ fn kept(deep: usize, e: Refusal) -> Stepped
     }
 }
 
-// Opens a panel of this depth at the start of the buffer. A refused open keeps the panel before it.
+// How many leaves the open panel has, and 0 where none is open.
+pub fn leaf_count(buffer: &[u8], deep: usize) -> u32
+    requires { ⌜ Holds deep (now buffer) ⌝ }
+    ensures { λ r. ⌜ r ≡ leavesIn deep (now (buffer .entry)) ⌝ }
+{
+    if deep == 0 {
+        return 0;
+    }
+    let len = size(deep);
+    leaves::count(&buffer[..len], deep)
+}
+
+// Whether a panel of the asked depth can stand at the start of the buffer.
+fn has_room(buffer: &[u8], asked: usize) -> bool
+    ensures { λ r. ⌜ Says (Fits (panelIn asked (now (buffer .entry))) asked) r ⌝ }
+{
+    if asked < nodes::LEAST_DEPTH {
+        return false;
+    }
+    if nodes::GREATEST_DEPTH < asked {
+        return false;
+    }
+    size(asked) <= buffer.len()
+}
+
+// Opens a panel of this depth at the start of the buffer: 0, or refusal 1, or 18 while the open panel has more than two leaves. A refused open
+// keeps the panel before it.
 fn open(buffer: &mut [u8], deep: usize, depth: u32) -> Stepped
+    requires { ⌜ Holds deep (now buffer) ⌝ }
     ensures { λ r. ⌜ Called depth deep (now (buffer .entry)) 0 (answerNumber (r .answer)) (r .deep) (now (buffer .exit)) ⌝ }
 {
     let asked = depth as usize;
-    if nodes::GREATEST_DEPTH < asked {
+    if !has_room(buffer, asked) {
         return kept(deep, Refusal::WrongLength);
+    }
+    if 2 < leaf_count(buffer, deep) {
+        return kept(deep, Refusal::PanelInUse);
     }
     let len = size(asked);
-    if buffer.len() < len {
-        return kept(deep, Refusal::WrongLength);
-    }
-    let answer = opening::open(&mut buffer[..len], depth);
-    match answer {
-        Answer::Done => Stepped {
-            answer: Answer::Done,
-            deep: asked,
-        },
-        Answer::No(e) => kept(deep, e),
+    opening::make_fresh(&mut buffer[..len], asked);
+    Stepped {
+        answer: Answer::Done,
+        deep: asked,
     }
 }
 

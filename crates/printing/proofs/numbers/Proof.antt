@@ -6,10 +6,12 @@ use native.Mathlib.Omega.{arith}
 use lib.ListN.{length}
 use lib.Seq.{length-take-le}
 use borrow.Author.Needs.{needs}
+use Rattle.steps.specs.Steps.{leavesIn}
 use Rattle.steps.proofs.Answering.{lent-small, lent-inside, lent-good}
-use Rattle.printing.specs.Printing.{Numbers, leavesIn}
+use Rattle.steps.proofs.Parts.{is-open, leaves-count}
+use Rattle.printing.specs.Printing.{Numbers}
 use Rattle.printing.specs.Printing.Numbers.{answer}
-use Rattle.printing.proofs.Showing.{is-open, leaf-numbers, few-leaves, leaves-count}
+use Rattle.printing.proofs.Showing.{leaf-numbers, few-leaves}
 use Rattle.printing.proofs.numbers.Statement.{statement}
 use Rattle.printing.proofs.numbers.Tie as tie
 

@@ -4,7 +4,7 @@ use Prim.Native.Nat.{_-_, _<_, min}
 use native.Mathlib.Omega.{arith}
 use lib.ListN.{length}
 use borrow.Author.Needs.{needs}
-use Rattle.steps.proofs.Answering.{answer-byte}
+use Rattle.answers.proofs.Refusing.{answer-byte}
 use Rattle.requests.proofs.Turns.{Turned, turned-none, turned-room, turned-record, turned-more, turned-end}
 use Rattle.requests.proofs.Keeping.{runs-holds}
 use Rattle.requests.proofs.run.Statement.{statement}

@@ -6,13 +6,13 @@ use Rattle.steps.proofs.change.Statement.{statement}
 use Rattle.steps.proofs.change.Tie as tie
 
 returns : tie.Need-returns
-returns c = let s = c .before .before in kind-split (s .before .before .if1 .taken) (s .split .ensures)
+returns c = let s = c .before .before in kind-split (s .before .before .if1 .taken) (s .split .ensures .0)
 
 returns-2 : tie.Need-returns-2
 returns-2 c =
     let m = c .before .before in
     let b = m .before .before in
-    kind-merge (omega (arith, b .if1 .left, b .before .before .pre)) (m .merge .ensures)
+    kind-merge (omega (arith, b .if1 .left, b .before .before .pre)) (m .merge .ensures .0)
 
 pub change-spec : {M : Type 1} → statement M
 change-spec =
