@@ -3,7 +3,7 @@ use mathlib.Core.Path.{_≡_, refl, subst}
 use mathlib.Core.Bool.{Bool, not, _&&_, _||_, So, Bool·beq}
 use mathlib.Core.Logic.{_≢_, inr, ⊎-elim}
 use mathlib.Core.List.{List, [], _∷_, _++_}
-use Prim.Native.Nat.{ℕ, suc, _+_, _*_, _/_, _^_, _≤_, _<_}
+use Prim.Native.Nat.{ℕ, suc, _+_, _-_, _*_, _/_, _^_, _≤_, _<_}
 use native.Mathlib.Omega.{arith}
 use lib.ListN.{length}
 use lib.Pow.{pow-mono}
@@ -14,14 +14,16 @@ use Rattle.nodes.specs.Neighbours.{edge}
 use Rattle.tables.specs.Table.{Row, unless, Answers, Outcome}
 use Rattle.tables.specs.inner.Says.{Says}
 use Rattle.nodes.proofs.Depths.{At, at-depth}
-use Rattle.tables.proofs.Tables.{is-done}
+use Rattle.tables.proofs.Tables.{is-done, is-refused, refused-more}
 use Rattle.panel.specs.Panels.{deepOf, CutOf, Good, InRange, LeafOf, numberIn, leafCount}
 use Rattle.cuts.specs.Cuts.{sibling}
-use Rattle.panel.specs.Calls.{panelRows, Together, Fresh, SplitAt, MergeAt}
+use Rattle.panel.specs.Calls.{panelRows, leafRows, Ancestor, Together, Fresh, SplitAt, MergeAt}
+use Rattle.cuts.proofs.Covering.{is-above, above-no-leaf}
 use Rattle.cuts.proofs.ForcedCuts.{Forced, Added, forced-at, smallest-added, smallest-iff}
 use Rattle.panel.proofs.Rows.{is-good, behind}
+use Rattle.panel.proofs.LeafRows.{rowsBehind, left-leaf}
 use Rattle.panel.proofs.SameBytes.{deep-same}
-use Rattle.evidence.specs.Known.{LeavesFrom, Leaves}
+use Rattle.evidence.specs.Known.{LeavesFrom, Leaves, Refused}
 use Rattle.evidence.proofs.Saying.{says-same, says-le, says-lt, imply, says-iff, says-and, says-or, says-imply, says-not, _and_, upTo, Decided, same-sets, sameList, same-list, Tested, firstNo, answered, byAnswer, outcome-shown}
 use Rattle.evidence.proofs.Testing.{leafIn, says-leaf, forcedIn, says-forced, cutOf, decided, goodPanel, good-shown}
 
@@ -130,28 +132,79 @@ says-together {s} S k =
     leaf : (n : ℕ) → Says (LeafOf s n) (leafIn (cutOf s) n)
     leaf = says-leaf (decided (S .fits))
 
--- the rows behind the judgement, and their tests
+-- the rows of a leaf and those behind them, and their tests: a node in range that is not cut is a leaf, or lies below one
+unfoldable pub leafTests : List ℕ → ℕ → List Bool → List Bool
+unfolding rangeIn
+leafTests s k bs = rangeIn s k ∷ not (cutOf s k) ∷ leafIn (cutOf s) k ∷ bs
+
+leaf-tested : {s : List ℕ} → Good s → (k : ℕ) (rows : List Row) (bs : List Bool) → Tested rows bs → Tested (rowsBehind s k rows) (leafTests s k bs)
+unfolding leafTests
+leaf-tested {s} S k rows bs t =
+    let d = decided (S .fits) in
+    (says-range s k, λ r. (says-not (d .says k), λ u. (says-iff (λ l b. above-no-leaf (b .1) l) (left-leaf S r u) (says-leaf d k), λ _. t)))
+
+abbrev splitLast : List ℕ → ℕ → List Row
+splitLast s k = unless 5 (depthOf k < deepOf s) ∷ []
+
 abbrev pub splitRows : List ℕ → ℕ → List Row
-splitRows s k = unless 3 (InRange s k) ∷ unless 4 (LeafOf s k) ∷ unless 5 (depthOf k < deepOf s) ∷ []
+splitRows s k = rowsBehind s k (splitLast s k)
 
 unfoldable pub splitTests : List ℕ → ℕ → List Bool
-unfolding rangeIn
-splitTests s k = rangeIn s k ∷ leafIn (cutOf s) k ∷ ltb (depthOf k) (deepOf s) ∷ []
+unfolding leafTests
+splitTests s k = leafTests s k (ltb (depthOf k) (deepOf s) ∷ [])
 
 pub split-tested : {s : List ℕ} → Good s → (k : ℕ) → Tested (splitRows s k) (splitTests s k)
 unfolding splitTests
-split-tested {s} S k = (says-range s k, (says-leaf (decided (S .fits)) k, (says-lt (depthOf k) (deepOf s), tt)))
+split-tested {s} S k = leaf-tested S k (splitLast s k) (ltb (depthOf k) (deepOf s) ∷ []) (says-lt (depthOf k) (deepOf s), λ _. tt)
+
+abbrev mergeLast : List ℕ → ℕ → List Row
+mergeLast s k = unless 6 (1 < depthOf k) ∷ unless 7 (Together s k) ∷ []
 
 abbrev pub mergeRows : List ℕ → ℕ → List Row
-mergeRows s k = unless 3 (InRange s k) ∷ unless 4 (LeafOf s k) ∷ unless 6 (1 < depthOf k) ∷ unless 7 (Together s k) ∷ []
+mergeRows s k = rowsBehind s k (mergeLast s k)
 
 unfoldable pub mergeTests : List ℕ → ℕ → List Bool
-unfolding rangeIn togetherIn
-mergeTests s k = rangeIn s k ∷ leafIn (cutOf s) k ∷ ltb 1 (depthOf k) ∷ togetherIn s k ∷ []
+unfolding leafTests togetherIn
+mergeTests s k = leafTests s k (ltb 1 (depthOf k) ∷ togetherIn s k ∷ [])
 
 pub merge-tested : {s : List ℕ} → Good s → (k : ℕ) → Tested (mergeRows s k) (mergeTests s k)
 unfolding mergeTests
-merge-tested {s} S k = (says-range s k, (says-leaf (decided (S .fits)) k, (says-lt 1 (depthOf k), (says-together S k, tt))))
+merge-tested {s} S k =
+    leaf-tested S k (mergeLast s k) (ltb 1 (depthOf k) ∷ togetherIn s k ∷ []) (says-lt 1 (depthOf k), λ _. (says-together S k, λ _. tt))
+
+-- ---- what a node that is no leaf is refused with
+
+-- the ancestor a beside the answer n
+unfoldable pub ancestorIn : List ℕ → ℕ → ℕ → ℕ → Bool
+ancestorIn s k n a =
+    eqb n 10 && leafIn (cutOf s) a && ltb (depthOf a) (depthOf k) && eqb (k / 2 ^ (depthOf k - depthOf a)) a
+    || not (eqb n 10) && eqb a 0
+
+ancestor-shown : {s : List ℕ} → Good s → (k n a : ℕ) → So (ancestorIn s k n a) → Ancestor s k n a
+unfolding ancestorIn
+ancestor-shown {s} G k n a e =
+    ⊎-elim
+    (λ x. record { leaf = λ _. is-above (G .cuts) (depthOf k - depthOf a) (omega (arith, x .0 .1)) (x .1) (x .0 .0 .1); none = λ z. absurd (z (x .0 .0 .0)) })
+    (λ x. record { leaf = λ z. absurd (x .0 z); none = λ _. x .1 })
+    (says-or
+    (says-and (says-and (says-and (says-same n 10) (says-leaf (decided (G .fits)) a)) (says-lt (depthOf a) (depthOf k))) (says-same (k / 2 ^ (depthOf k - depthOf a)) a))
+    (says-and (says-not (says-same n 10)) (says-same a 0)) .yes e)
+
+unfoldable pub refusedIn : List ℕ → ℕ → ℕ → ℕ → Bool
+unfolding leafTests
+refusedIn s k n a = goodPanel s && eqb (firstNo (rowsBehind s k []) (leafTests s k [])) n && not (eqb n 0) && ancestorIn s k n a
+
+pub refused-shown : (s : List ℕ) (k n a : ℕ) → So (refusedIn s k n a) → Refused s k n a
+unfolding refusedIn
+refused-shown s k n a e =
+    let (((G, f), z), x) = (good-shown s and eqb-true (firstNo (rowsBehind s k []) (leafTests s k [])) n and says-not (says-same n 0) .yes and (λ x. x)) e in
+    let b = behind (rowsBehind s k []) G (subst (Answers (rowsBehind s k [])) f (answered (rowsBehind s k []) (leafTests s k []) (leaf-tested G k [] [] tt))) in
+    record {
+      split = is-refused z (refused-more (leafRows s k) (splitLast s k) n z b) refl;
+      merge = is-refused z (refused-more (leafRows s k) (mergeLast s k) n z b) refl;
+      number-of = is-refused z b refl;
+      ancestor = ancestor-shown G k n a x;
+    }
 
 -- ---- a call that changes a panel
 

@@ -31,30 +31,31 @@ use Rattle.words.specs.Words.{word, leafBit}
 use Rattle.sums.proofs.Counts.{word-all}
 use Rattle.cuts.specs.Cuts.{CoverOnce}
 use Rattle.cuts.proofs.Areas.{total}
-use Rattle.panel.specs.Panels.{sizeOf, Fits, deepOf, CutOf, Good, LeafOf, leafCount}
-use Rattle.panel.specs.Calls.{panelRows, leafRows, Judged, Count, LeafBits, LeafAt, NumberOf, Open, SplitAt, Split, Together, MergeAt, Merge}
+use Rattle.panel.specs.Panels.{sizeOf, Fits, deepOf, CutOf, Good, InRange, LeafOf, leafCount}
+use Rattle.panel.specs.Calls.{panelRows, leafRows, Judged, Count, LeafBits, LeafAt, Ancestor, NumberOf, Open, SplitAt, Split, Together, MergeAt, Merge}
 use Rattle.panel.proofs.Lengths.{fits-small}
 use Rattle.panel.proofs.GoodPanels.{leaf-in-range, leaf-areas}
 use Rattle.panel.proofs.SameBytes.{bytes-same}
-use Rattle.panel.proofs.Once.{judge-one, count-one, leaf-bits-one, leaf-at-one, number-of-one, open-one, split-one, merge-one}
-use Rattle.records.specs.Records.{Fine, mostRecords}
-use Rattle.steps.specs.Steps.{Called, Step}
-use Rattle.steps.specs.Steps.Called.{opened, refused, split as splits, merge as merges}
-use Rattle.steps.specs.Steps.Step.{bad, call}
+use Rattle.panel.proofs.Once.{judge-one, count-one, leaf-bits-one, leaf-at-one, ancestor-one, number-of-one, open-one, split-one, merge-one}
+use Rattle.records.specs.Records.{kind, number, Fine, recordAt, mostRecords}
+use Rattle.steps.specs.Steps.{panelIn, leavesIn, Step}
 use Rattle.steps.specs.Holding.{Holds}
+use Rattle.steps.proofs.Exactness.{nine-exactly, in-use-exactly}
 use Rattle.steps.proofs.Keeping.{step-refused}
 use Rattle.steps.proofs.Once.{step-one}
-use Rattle.requests.specs.Requests.{Part, Run, Parts, Ended}
-use Rattle.requests.proofs.Keeping.{run-holds, ended-holds}
+use Rattle.requests.specs.Requests.{Runs, Part, Run, Parts, Ended}
+use Rattle.requests.proofs.Keeping.{run-holds, ended-holds, NoneDone}
 use Rattle.requests.proofs.Once.{part-one, run-one}
 use Rattle.requests.proofs.Parts.{parts-one}
 use Rattle.printing.specs.Printing.{Lines}
 use Rattle.printing.proofs.Once.{lines-one, lines-then}
 use Rattle.evidence.specs.Known.{Every, knownCases}
 use Rattle.tables.specs.Exactly.{Exactly}
-use Rattle.tables.proofs.Exactness.{Rising, refused-exactly, outcome-under}
+use Rattle.tables.proofs.Exactness.{Differing, refused-exactly}
 use Rattle.evidence.proofs.Known.{known}
+use Rattle.evidence.proofs.NoLeaf.{WhyNoLeaf, why-no-leaf, SaysWhy, says-why}
 use Rattle.evidence.proofs.Numbers.{NumbersName, numbers-name, number-of-leaf-at, leaf-at-number-of}
+use Rattle.evidence.proofs.Scans.{ScanKept, run-keeps-scan, runs-stay, runs-grow}
 use Rattle.evidence.proofs.Sequences.{Reached, always-good, always-covers, always-long-side, split-grows, back-answers, back-restores, again-restores}
 
 -- ---- demand 1: every input of every call has one outcome, refusals are exact, and what is lent is kept where a call refuses
@@ -70,7 +71,7 @@ pub record Settled (rows : List Row) (A : Type 0) (B : A → Type 0) (kept : A) 
 abbrev Any : (A : Type 0) → A → Type 0
 Any A x = Unit {0}
 
-settled : (rows : List Row) (A : Type 0) (B : A → Type 0) (kept : A) (Done : A → Type 0) → Rising 0 rows
+settled : (rows : List Row) (A : Type 0) (B : A → Type 0) (kept : A) (Done : A → Type 0) → Differing rows
     → ((n m : ℕ) (x y : A) → B x → B y → Outcome rows A Done (λ z. z ≡ kept) n x → Outcome rows A Done (λ z. z ≡ kept) m y → (n ≡ m) × (x ≡ y))
     → Settled rows A B kept (Outcome rows A Done (λ z. z ≡ kept))
 settled rows A B kept Done u one = record {
@@ -88,11 +89,20 @@ pub record Demand1 : Type 0 where
   pub opens : (s : List ℕ) (D : ℕ) → Settled (unless 1 (Fits s D) ∷ []) (List ℕ) Bytes s (Open s D)
   pub split : (s : List ℕ) (k : ℕ) → Settled (leafRows s k ++ unless 5 (depthOf k < deepOf s) ∷ []) (List ℕ) Bytes s (Split s k)
   pub merge : (s : List ℕ) (k : ℕ) → Settled (leafRows s k ++ unless 6 (1 < depthOf k) ∷ unless 7 (Together s k) ∷ []) (List ℕ) Bytes s (Merge s k)
+  -- in range and not a leaf is exactly one of two, and 4 and 10 say which; beside an answer stands one ancestor
+  pub no-leaf : (s : List ℕ) → Good s → (k : ℕ) → InRange s k → WhyNoLeaf s k
+  pub number-of-why : {s : List ℕ} {k n i : ℕ} → NumberOf s k n i → SaysWhy s k n
+  pub split-why : {s t : List ℕ} {k n : ℕ} → Split s k n t → SaysWhy s k n
+  pub merge-why : {s t : List ℕ} {k n : ℕ} → Merge s k n t → SaysWhy s k n
+  pub ancestor : (s : List ℕ) (k n a b : ℕ) → Ancestor s k n a → Ancestor s k n b → a ≡ b
   pub neighbours : (n : ℕ) → Settled (nodeRows n) Triple (Any Triple) none (Neighbours n)
   pub corners : (n : ℕ) → Settled (nodeRows n) Triangle (Any Triangle) noCorners (Corners n)
-  -- one record: 9 exactly where it is bad, and else its call's answer; a refused one; a part of the input, and a run of records
+  -- one record: 9 exactly where it is bad, 18 exactly where it asks for an open that fits, over more than two leaves, and else its call's
+  -- answer; a refused one; a part of the input, and a run of records
   pub step : {r b u v : List ℕ} {D n m E F : ℕ} → Bytes u → Bytes v → Step r D b n E u → Step r D b m F v → (n ≡ m) × (E ≡ F) × (u ≡ v)
   pub step-bad : {r b u : List ℕ} {D n E : ℕ} → Step r D b n E u → (n ≡ 9) ↔ (Fine r → ⊥)
+  pub step-in-use : {r b u : List ℕ} {D n E : ℕ} → Step r D b n E u
+      → (n ≡ 18) ↔ (Fine r × (kind r ≡ 0) × Fits (panelIn (number r) b) (number r) × (2 < leavesIn D b))
   pub step-keeps : {r b u : List ℕ} {D n E : ℕ} → Step r D b n E u → n ≢ 0 → (E ≡ D) × (u ≡ b)
   pub part : {p b out u v x y : List ℕ} {ends : Bool} {before C n m D E : ℕ} → before ≤ min mostRecords (length out)
       → Part p ends before C b out n D u x → Part p ends before C b out m E v y → (n ≡ m) × (D ≡ E) × (u ≡ v) × (x ≡ y)
@@ -103,17 +113,6 @@ pub record Demand1 : Type 0 where
   -- what a run came to is printed in one way, and blocks in turn are its lines in turn
   pub printed : {given t x y : List ℕ} {D i j k : ℕ} → Ended given D t → Lines given D t i j x → Lines given D t i k y → j ≡ k → x ≡ y
   pub blocks : {given t x y : List ℕ} {D i j k : ℕ} → Lines given D t i j x → Lines given D t j k y → Lines given D t i k (x ++ y)
-
--- no call answers 9
-called-under : {k D c n E : ℕ} {b u : List ℕ} → Called k D b c n E u → n < 9
-called-under (opened o) = omega arith
-called-under (refused o z) = outcome-under 9 (omega arith) o
-called-under (splits o) = outcome-under 9 (omega arith) o
-called-under (merges o) = outcome-under 9 (omega arith) o
-
-nine-exactly : {r b u : List ℕ} {D n E : ℕ} → Step r D b n E u → (n ≡ 9) ↔ (Fine r → ⊥)
-nine-exactly (bad f) = (λ e. f, λ g. refl)
-nine-exactly (call g c) = (λ e. absurd (let h = called-under c in omega arith), λ f. absurd (f g))
 
 pub demand-1 : Demand1
 demand-1 = record {
@@ -129,10 +128,16 @@ demand-1 = record {
   opens = λ s D. settled _ _ _ _ _ (omega arith) (open-one s D);
   split = λ s k. settled _ _ _ _ _ (omega arith) (split-one s k);
   merge = λ s k. settled _ _ _ _ _ (omega arith) (merge-one s k);
+  no-leaf = why-no-leaf;
+  number-of-why = λ o. says-why [] (omega arith) (o .answer);
+  split-why = λ o. says-why (unless 5 _ ∷ []) (omega arith) (o .answer);
+  merge-why = λ o. says-why (unless 6 _ ∷ unless 7 _ ∷ []) (omega arith) (o .answer);
+  ancestor = ancestor-one;
   neighbours = λ n. settled _ _ _ _ _ (omega arith) (λ a b x y _ _. neighbours-one n a b x y);
   corners = λ n. settled _ _ _ _ _ (omega arith) (λ a b x y _ _. corners-one n a b x y);
   step = step-one;
   step-bad = nine-exactly;
+  step-in-use = in-use-exactly;
   step-keeps = step-refused;
   part = part-one;
   run = run-one;
@@ -227,6 +232,10 @@ pub record Demand3 : Type 0 where
   pub covers : {t : List ℕ} → Reached t → CoverOnce (deepOf t) (CutOf t)
   pub long-side : {t : List ℕ} → Reached t → (n : ℕ) → 2 ≤ n → CutOf t n → edge n ≢ 0 → CutOf t (edge n)
   pub after-records : {rs b out u after : List ℕ} {count D : ℕ} → Run rs b out count D u after → Holds D u
+  -- no record of a run loses a scan; and from any record of it on the panel stays open, and has no fewer leaves where no merge is accepted
+  pub scan : {rs b given t u : List ℕ} {D n E : ℕ} → Runs rs 0 b given D t → Step (recordAt rs (length given)) D t n E u → ScanKept (recordAt rs (length given)) D t n E u
+  pub open-on : {rs b given u : List ℕ} {C D : ℕ} → Holds C b → Runs rs C b given D u → C ≢ 0 → D ≢ 0
+  pub grows-on : {rs b given u : List ℕ} {C D : ℕ} → Holds C b → Runs rs C b given D u → NoneDone 2 rs given → leavesIn C b ≤ leavesIn D u
   -- the smallest good panel that holds every old cut and k's; at least one leaf more, and at most twice k's depth
   pub smallest : {s : List ℕ} {k : ℕ} {t : List ℕ} → Split s k 0 t → SplitAt s k t
   pub bounded : {s : List ℕ} {k : ℕ} {t : List ℕ} → Split s k 0 t → (leafCount s + 1 ≤ leafCount t) × (leafCount t ≤ leafCount s + 2 * depthOf k)
@@ -243,6 +252,9 @@ demand-3 = record {
   covers = always-covers;
   long-side = always-long-side;
   after-records = run-holds;
+  scan = run-keeps-scan;
+  open-on = runs-stay;
+  grows-on = runs-grow;
   smallest = λ o. o .done refl;
   bounded = split-grows;
   exact = λ o. o .done refl;

@@ -19,10 +19,10 @@ use Rattle.words.specs.Words.{word, leafBit}
 use Rattle.panel.specs.Panels.{Fits}
 use Rattle.panel.specs.Calls.{Fresh, Open}
 use Rattle.panel.proofs.Rows.{is-good}
-use Rattle.evidence.specs.Known.{Case, judged, opens, splits, merges, neighbours, corners, Holds, Every, knownCases}
+use Rattle.evidence.specs.Known.{Case, judged, opens, splits, merges, refused, neighbours, corners, Holds, Every, knownCases}
 use Rattle.evidence.proofs.Saying.{_and_, upTo, sameList, same-list, firstNo}
 use Rattle.evidence.proofs.Testing.{cutIn, goodIn, leafIn, forcedIn, fitsIn, sumsIn, rightIn, goodPanel, good-shown}
-use Rattle.evidence.proofs.Calling.{leavesIn, leaves-shown, freshIn, fresh-shown, splitIn, split-shown, mergeIn, merge-shown, splitRows, splitTests, split-tested, mergeRows, mergeTests, merge-tested, changed, changed-shown}
+use Rattle.evidence.proofs.Calling.{leavesIn, leaves-shown, freshIn, fresh-shown, splitIn, split-shown, mergeIn, merge-shown, splitRows, splitTests, split-tested, mergeRows, mergeTests, merge-tested, leafTests, ancestorIn, refusedIn, refused-shown, changed, changed-shown}
 
 knownNode : ℕ → Bool
 knownNode n = leb 2 n && ltb n (2 ^ (greatestDepth + 1))
@@ -44,6 +44,7 @@ test (judged t ks) = goodPanel t && leavesIn t 0 ks
 test (opens D t ks) = goodPanel t && freshIn D t && leavesIn t 0 ks
 test (splits s k n t ks) = changed (splitRows s k) (splitTests s k) (splitIn s k t) s n t ks
 test (merges s k n t ks) = changed (mergeRows s k) (mergeTests s k) (mergeIn s k t) s n t ks
+test (refused s k n a) = refusedIn s k n a
 test (neighbours n l r e) =
     knownNode n && eqb l (neighboursOf n .left) && eqb r (neighboursOf n .right) && eqb e (neighboursOf n .edge)
 test (corners n t) = knownNode n && sameList (sameList eqb) t (cornersOf n)
@@ -56,6 +57,7 @@ sound (opens D t ks) e =
     let ((G, x), y) = (good-shown t and (λ x. x) and (λ y. y)) e in (opened-any (fresh-shown G x), leaves-shown G 0 ks y)
 sound (splits s k n t ks) e = changed-shown (splitRows s k) (splitTests s k) n ks (λ S. split-tested S k) (split-shown k) e
 sound (merges s k n t ks) e = changed-shown (mergeRows s k) (mergeTests s k) n ks (λ S. merge-tested S k) (merge-shown k) e
+sound (refused s k n a) e = refused-shown s k n a e
 sound (neighbours n l r e) z =
     let (((a, p), q), o) = (is-known n and eqb-true l (neighboursOf n .left) and eqb-true r (neighboursOf n .right) and eqb-true e (neighboursOf n .edge)) z in
     known-node a (λ i. record { left = p i; right = q i; edge = o i })
@@ -74,7 +76,7 @@ all-sound [] e = tt
 all-sound (c ∷ cs) e = (sound c and all-sound cs) e
 
 tested : So (tests knownCases)
-unfolding tests test knownNode upTo sameList firstNo cutIn goodIn leafIn forcedIn fitsIn sumsIn rightIn goodPanel leavesIn freshIn splitIn mergeIn splitTests mergeTests changed run word leafBit rank depthOf depthIn neighboursOf neighboursAt cornersOf cornersAt
+unfolding tests test knownNode upTo sameList firstNo cutIn goodIn leafIn forcedIn fitsIn sumsIn rightIn goodPanel leavesIn freshIn splitIn mergeIn splitTests mergeTests leafTests ancestorIn refusedIn changed run word leafBit rank depthOf depthIn neighboursOf neighboursAt cornersOf cornersAt
 tested = refl
 
 pub known : Every knownCases

@@ -2,8 +2,10 @@ pub mod Calling
 pub mod Demands
 pub mod Growth
 pub mod Known
+pub mod NoLeaf
 pub mod Numbers
 pub mod Saying
+pub mod Scans
 pub mod Sequences
 pub mod Testing
 pub mod ThereAndBack

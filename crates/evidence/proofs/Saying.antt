@@ -109,11 +109,11 @@ same-list s (x ∷ xs) (y ∷ ys) e = let (p, q) = (s x y and same-list s xs ys)
 
 -- ---- a table of refusals
 
--- each row has its test
+-- each row has its test, where the rows before it pass
 abbrev pub Tested : List Row → List Bool → Type 0
 Tested [] bs = Unit {0}
 Tested (r ∷ rows) [] = ⊥
-Tested (r ∷ rows) (b ∷ bs) = Says (r .passes) b × Tested rows bs
+Tested (r ∷ rows) (b ∷ bs) = Says (r .passes) b × (r .passes → Tested rows bs)
 
 -- the number of the first row whose test fails, or 0
 unfoldable pub firstNo : List Row → List Bool → ℕ
@@ -126,7 +126,7 @@ pub answered : (rows : List Row) (bs : List Bool) → Tested rows bs → Answers
 unfolding firstNo
 answered [] bs t = refl
 answered (r ∷ rows) [] t = absurd t
-answered (r ∷ rows) (true ∷ bs) t = inr (t .0 .yes refl, answered rows bs (t .1))
+answered (r ∷ rows) (true ∷ bs) t = let p = t .0 .yes refl in inr (p, answered rows bs (t .1 p))
 answered (r ∷ rows) (false ∷ bs) t = inl (t .0 .no refl, refl)
 
 -- the test of what is done, or of what is refused, by the answer

@@ -1,0 +1,105 @@
+-- No record loses a scan. A split adds leaves, an open is accepted only over no panel or two leaves and leaves two, and a refusal changes nothing: so only
+-- an accepted merge lowers the leaf count.
+use mathlib.Core.Path.{_≡_, refl, ap, _∙_, subst}
+use mathlib.Core.Logic.{_≢_, _⊎_, inl, inr}
+use mathlib.Core.List.{List}
+use Prim.Native.Nat.{ℕ, _≤_}
+use native.Mathlib.Decide.{ℕ-discrete}
+use native.Mathlib.Omega.{arith}
+use lib.ListN.{length}
+use Rattle.panel.specs.Panels.{sizeOf}
+use Rattle.panel.specs.Calls.{Open, Split}
+use Rattle.panel.proofs.GoodPanels.{two-leaves, fresh-count}
+use Rattle.records.specs.Records.{kind, Fine, recordAt}
+use Rattle.steps.specs.Steps.{panelIn, changed, leavesIn, Called, Step}
+use Rattle.steps.specs.Steps.Called.{opened, refused, in-use, split, merge}
+use Rattle.steps.specs.Steps.Step.{bad, call}
+use Rattle.steps.specs.Holding.{Holds}
+use Rattle.steps.proofs.Keeping.{holds-none}
+use Rattle.steps.proofs.Parts.{same-changed, held-length, leaves-none, leaves-open, leaves-changed}
+use Rattle.requests.specs.Requests.{Runs}
+use Rattle.requests.specs.Requests.Runs.{none, more}
+use Rattle.requests.proofs.Keeping.{runs-holds, NoneDone, before-none, last-none}
+use Rattle.evidence.proofs.Sequences.{split-grows}
+
+-- ---- one record
+
+-- what record r, which answers n, does to the open panel of depth D in the buffer b: it leaves that of depth E in the buffer u
+pub record ScanKept (r : List ℕ) (D : ℕ) (b : List ℕ) (n E : ℕ) (u : List ℕ) : Type 0 where
+  -- an open panel stays open
+  pub stays : D ≢ 0 → E ≢ 0
+  -- an open is accepted only over no panel or two leaves
+  pub over : Fine r → kind r ≡ 0 → n ≡ 0 → (D ≡ 0) ⊎ (leavesIn D b ≡ 2)
+  -- unless the record is an accepted merge, the leaf count is not lowered
+  pub grows : (Fine r → kind r ≡ 2 → n ≢ 0) → leavesIn D b ≤ leavesIn E u
+
+opened-deep : {s t : List ℕ} {k : ℕ} → Open s k 0 t → k ≢ 0
+opened-deep o e = omega (arith, o .done refl .deep)
+
+-- an accepted open leaves two leaves
+opened-leaves : {s t : List ℕ} {k : ℕ} (b : List ℕ) → Open s k 0 t → leavesIn k (changed k b t) ≡ 2
+opened-leaves {t = t} {k = k} b o =
+    let f = o .done refl in
+    leaves-changed k b t (opened-deep o) (f .good .fits .long ∙ ap sizeOf (f .deep)) ∙ fresh-count f
+
+module _ {D : ℕ} {b : List ℕ} (h : Holds D b) where
+  -- as an open panel has at least two
+  two-or-none : leavesIn D b ≤ 2 → (D ≡ 0) ⊎ (leavesIn D b ≡ 2)
+  two-or-none l = go (ℕ-discrete D 0)
+    where
+      go : Dec (D ≡ 0) → (D ≡ 0) ⊎ (leavesIn D b ≡ 2)
+      go (yes z) = inl z
+      go (no z) = inr (omega (arith, leaves-open D b z, two-leaves (panelIn D b) (h .good z)))
+
+  -- a split adds leaves, or is refused
+  split-more : {k n : ℕ} {t : List ℕ} → Split (panelIn D b) k n t → leavesIn D b ≤ leavesIn D (changed D b t)
+  split-more {k} {n} {t} o = go (ℕ-discrete n 0) (ℕ-discrete D 0)
+    where
+      go : Dec (n ≡ 0) → Dec (D ≡ 0) → leavesIn D b ≤ leavesIn D (changed D b t)
+      go (yes a) (yes z) = omega (arith, leaves-none D b z)
+      go (yes a) (no z) =
+          let m = split-grows (subst (λ x. Split (panelIn D b) k x t) a o) in
+          omega (arith, m .0, leaves-open D b z, leaves-changed D b t z (o .done a .long ∙ held-length h z))
+      go (no a) _ = omega (arith, ap (leavesIn D) (same-changed D b t (o .refused a)))
+
+  called-stays : {k c n E : ℕ} {u : List ℕ} → Called k D b c n E u → D ≢ 0 → E ≢ 0
+  called-stays (opened o l) z = opened-deep o
+  called-stays (refused o y) z = z
+  called-stays (in-use f l) z = z
+  called-stays (split o) z = z
+  called-stays (merge o) z = z
+
+  called-over : {k c n E : ℕ} {u : List ℕ} → Called k D b c n E u → c ≡ 0 → n ≡ 0 → (D ≡ 0) ⊎ (leavesIn D b ≡ 2)
+  called-over (opened o l) e a = two-or-none l
+  called-over (refused o y) e a = absurd (y a)
+  called-over (in-use f l) e a = absurd (omega arith)
+  called-over (split o) e a = absurd (omega arith)
+  called-over (merge o) e a = absurd (omega arith)
+
+  called-grows : {k c n E : ℕ} {u : List ℕ} → Called k D b c n E u → (c ≡ 2 → n ≢ 0) → leavesIn D b ≤ leavesIn E u
+  called-grows (opened o l) m = omega (arith, opened-leaves b o)
+  called-grows (refused o y) m = omega arith
+  called-grows (in-use f l) m = omega arith
+  called-grows (split o) m = split-more o
+  called-grows (merge {t = t} o) m = omega (arith, ap (leavesIn D) (same-changed D b t (o .refused (m refl))))
+
+  step-keeps-scan : {r u : List ℕ} {n E : ℕ} → Step r D b n E u → ScanKept r D b n E u
+  step-keeps-scan (bad f) = record { stays = λ z. z; over = λ g. absurd (f g); grows = λ m. omega arith }
+  step-keeps-scan (call f c) = record { stays = called-stays c; over = λ _. called-over c; grows = λ m. called-grows c (m f) }
+
+-- ---- a run of records
+
+pub run-keeps-scan : {rs b given t u : List ℕ} {D n E : ℕ} → Runs rs 0 b given D t → Step (recordAt rs (length given)) D t n E u
+    → ScanKept (recordAt rs (length given)) D t n E u
+run-keeps-scan {b = b} r s = step-keeps-scan (runs-holds (holds-none b) r) s
+
+-- an open panel stays open
+pub runs-stay : {rs b given u : List ℕ} {C D : ℕ} → Holds C b → Runs rs C b given D u → C ≢ 0 → D ≢ 0
+runs-stay h none z = z
+runs-stay h (more r s y) z = step-keeps-scan (runs-holds h r) s .stays (runs-stay h r z)
+
+-- and where no merge is accepted, its leaf count is not lowered
+pub runs-grow : {rs b given u : List ℕ} {C D : ℕ} → Holds C b → Runs rs C b given D u → NoneDone 2 rs given → leavesIn C b ≤ leavesIn D u
+runs-grow h none m = omega arith
+runs-grow {rs} h (more {given = g} {n = n} r s y) m =
+    omega (arith, runs-grow h r (before-none rs g n m), step-keeps-scan (runs-holds h r) s .grows (last-none rs g n m))
