@@ -1,16 +1,23 @@
 //! The calls on a lent panel, as the library exports them: an answer's number, and what comes with it.
 //! "Beside a refusal every other number returned is 0, a returned part is empty, and all lent bytes are as before the call."
+//! "the ancestor is the one number not 0 that a refusal returns"
 
 use crate::panel::{depth_of_length, length_of, Panel};
 use crate::triangles::{self, Neighbours, Triangle};
 use crate::{Answer, WRONG_LENGTH};
 
-/// The answer's number, and the value or, beside a refusal, zeros.
-pub fn told<T: Default>(answer: Answer<T>) -> (u32, T) {
+/// The answer's number, the value or, beside a refusal, zeros, and the ancestor.
+pub fn told_with_ancestor<T: Default>(answer: Answer<T>) -> (u32, (T, u32)) {
     match answer {
-        Ok(value) => (0, value),
-        Err(refusal) => (refusal, T::default()),
+        Ok(value) => (0, (value, 0)),
+        Err(refusal) => (refusal.number, (T::default(), refusal.ancestor)),
     }
+}
+
+/// The same for a call that hands out no ancestor.
+pub fn told<T: Default>(answer: Answer<T>) -> (u32, T) {
+    let (number, (value, _)) = told_with_ancestor(answer);
+    (number, value)
 }
 
 pub fn neighbours(node: u32) -> (u32, Neighbours) {
@@ -53,9 +60,9 @@ pub fn leaf_at(bytes: &[u8], number: u32) -> (u32, u32) {
     told(Panel::read(bytes).and_then(|panel| panel.leaf_at(number)))
 }
 
-/// The leaf number of a node.
-pub fn number_of(bytes: &[u8], node: u32) -> (u32, u32) {
-    told(Panel::read(bytes).and_then(|panel| panel.number_of(node)))
+/// The leaf number of a node, and the ancestor.
+pub fn number_of(bytes: &[u8], node: u32) -> (u32, (u32, u32)) {
+    told_with_ancestor(Panel::read(bytes).and_then(|panel| panel.number_of(node)))
 }
 
 /// Where the leaf bits start in the bytes, and how many bytes they fill.
@@ -66,21 +73,21 @@ pub fn leaf_bits(bytes: &[u8]) -> (u32, (usize, usize)) {
     }))
 }
 
-fn change(bytes: &mut [u8], by: impl Fn(&mut Panel) -> Answer<()>) -> u32 {
-    let changed = Panel::read(bytes).and_then(|mut panel| by(&mut panel).map(|()| panel));
-    match changed {
-        Ok(panel) => {
-            store(bytes, &panel);
-            0
-        }
-        Err(refusal) => refusal,
-    }
+fn change(bytes: &mut [u8], by: impl Fn(&mut Panel) -> Answer<()>) -> (u32, u32) {
+    let changed = Panel::read(bytes).and_then(|mut panel| {
+        by(&mut panel)?;
+        store(bytes, &panel);
+        Ok(())
+    });
+    let (number, ((), ancestor)) = told_with_ancestor(changed);
+    (number, ancestor)
 }
 
-pub fn split(bytes: &mut [u8], node: u32) -> u32 {
+/// The ancestor is all that a split or a merge hands out.
+pub fn split(bytes: &mut [u8], node: u32) -> (u32, u32) {
     change(bytes, |panel| panel.split(node))
 }
 
-pub fn merge(bytes: &mut [u8], node: u32) -> u32 {
+pub fn merge(bytes: &mut [u8], node: u32) -> (u32, u32) {
     change(bytes, |panel| panel.merge(node))
 }

@@ -3,31 +3,49 @@
 //! shares a side. It is slow and plain, and it shares no code and no way of computing with the proved
 //! crates, so that the two can be held against each other.
 //!
-//! Answers are document 01's numbers, 0 for done and 1 to 9 for a refusal.
+//! Answers are document 01's numbers, 0 for done, with request W4's: what 4 means now, 10 and 18.
 
 pub mod calls;
 pub mod panel;
 pub mod requests;
 pub mod triangles;
 
-/// "length isn't 2^(D−1) for a D of 3 to 17; on open, also a depth that is out of range or doesn't fit the length"
-pub const WRONG_LENGTH: u32 = 1;
-/// "length fits, panel isn't good"
-pub const NOT_GOOD: u32 = 2;
-/// "node below 2, or above 2^(D+1)−1 (above 262,143 for neighbours and corners, which take no panel)"
-pub const NO_SUCH_NODE: u32 = 3;
-/// "node is in range but isn't a leaf"
-pub const NOT_A_LEAF: u32 = 4;
-/// "leaf is at depth D"
-pub const AT_GREATEST_DEPTH: u32 = 5;
-/// "leaf is at depth 1"
-pub const AT_DEPTH_ONE: u32 = 6;
-/// "leaf is deeper, but not all the leaves the merge needs are there"
-pub const LEAVES_MISSING: u32 = 7;
-/// "leaf number is at or above the count"
-pub const NO_SUCH_NUMBER: u32 = 8;
-/// "bad record"
-pub const BAD_RECORD: u32 = 9;
+/// Why a call is refused: its number, and the ancestor that comes with it, which is 0 beside all but 10.
+#[derive(Clone, Copy, Debug, PartialEq, Eq)]
+pub struct Refusal {
+    pub number: u32,
+    pub ancestor: u32,
+}
 
-/// What a call hands out, or the number of its refusal.
-pub type Answer<T> = Result<T, u32>;
+const fn alone(number: u32) -> Refusal {
+    Refusal { number, ancestor: 0 }
+}
+
+/// "length isn't 2^(D−1) for a D of 3 to 17; on open, also a depth that is out of range or doesn't fit the length"
+pub const WRONG_LENGTH: Refusal = alone(1);
+/// "length fits, panel isn't good"
+pub const NOT_GOOD: Refusal = alone(2);
+/// "node below 2, or above 2^(D+1)−1 (above 262,143 for neighbours and corners, which take no panel)"
+pub const NO_SUCH_NODE: Refusal = alone(3);
+/// "the node is itself cut"
+pub const IS_CUT: Refusal = alone(4);
+/// "leaf is at depth D"
+pub const AT_GREATEST_DEPTH: Refusal = alone(5);
+/// "leaf is at depth 1"
+pub const AT_DEPTH_ONE: Refusal = alone(6);
+/// "leaf is deeper, but not all the leaves the merge needs are there"
+pub const LEAVES_MISSING: Refusal = alone(7);
+/// "leaf number is at or above the count"
+pub const NO_SUCH_NUMBER: Refusal = alone(8);
+/// "bad record"
+pub const BAD_RECORD: Refusal = alone(9);
+/// "an open while its panel has more than two leaves"
+pub const PANEL_IN_USE: Refusal = alone(18);
+
+/// "an ancestor is the leaf, and that ancestor's number is returned beside it"
+pub const fn below_leaf(ancestor: u32) -> Refusal {
+    Refusal { number: 10, ancestor }
+}
+
+/// What a call hands out, or why it is refused.
+pub type Answer<T> = Result<T, Refusal>;

@@ -18,7 +18,7 @@ Each reads FILE, or standard input where there is none, and writes to standard o
 
 Request text has one request on a line; '#' starts a comment, empty lines are skipped:
 
-  open 3      a fresh panel of depth 3 (3 to 17)
+  open 3      a fresh panel of depth 3 (3 to 17); refused while there are more than two leaves
   split 2     cut leaf 2, and what must be cut with it
   merge 5     take back the cut that made leaf 5, and the one across
   bytes 03 00 00 00 05 00 00 00   a record as it stands, good or bad; 1 to 7 bytes on the last line are a tail

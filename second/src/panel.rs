@@ -4,7 +4,7 @@ use std::collections::BTreeSet;
 
 use crate::triangles::{depth, neighbours_of, GREATEST_DEPTH, LEAST_DEPTH};
 use crate::{
-    Answer, AT_DEPTH_ONE, AT_GREATEST_DEPTH, LEAVES_MISSING, NOT_A_LEAF, NOT_GOOD, NO_SUCH_NODE,
+    below_leaf, Answer, AT_DEPTH_ONE, AT_GREATEST_DEPTH, IS_CUT, LEAVES_MISSING, NOT_GOOD, NO_SUCH_NODE,
     NO_SUCH_NUMBER, WRONG_LENGTH,
 };
 
@@ -117,6 +117,11 @@ fn is_leaf(cuts: &BTreeSet<u32>, node: u32) -> bool {
     node >= 2 && !cuts.contains(&node) && cuts.contains(&(node / 2))
 }
 
+/// What a node comes to as it is halved again and again, the last of them node 1.
+fn ancestors(node: u32) -> impl Iterator<Item = u32> {
+    std::iter::successors(Some(node / 2), |n| Some(n / 2)).take_while(|n| *n >= 1)
+}
+
 /// All leaves, from left to right.
 fn leaves_of(panel_depth: u32, cuts: &BTreeSet<u32>) -> Vec<u32> {
     let children = cuts.iter().flat_map(|n| [2 * n, 2 * n + 1]);
@@ -196,24 +201,28 @@ impl Panel {
         self.leaves.get(number as usize).copied().ok_or(NO_SUCH_NUMBER)
     }
 
-    /// Nothing where the node is a leaf, else 3 or 4.
+    /// Nothing where the node is a leaf, else 3, 4 or 10.
     fn must_be_leaf(&self, node: u32) -> Answer<()> {
         if !(2..2u32 << self.depth).contains(&node) {
-            Err(NO_SUCH_NODE)
-        } else if !is_leaf(&self.cuts, node) {
-            Err(NOT_A_LEAF)
-        } else {
-            Ok(())
+            return Err(NO_SUCH_NODE);
         }
+        if is_leaf(&self.cuts, node) {
+            return Ok(());
+        }
+        if self.cuts.contains(&node) {
+            return Err(IS_CUT);
+        }
+        let leaf = ancestors(node).find(|n| is_leaf(&self.cuts, *n));
+        Err(below_leaf(leaf.expect("a node that is not cut and no leaf has a leaf above it")))
     }
 
-    /// How many leaves stand left of this one, or 3 or 4.
+    /// How many leaves stand left of this one, or 3, 4 or 10.
     pub fn number_of(&self, node: u32) -> Answer<u32> {
         self.must_be_leaf(node)?;
         Ok(self.leaves.iter().take_while(|n| **n != node).count() as u32)
     }
 
-    /// "the smallest good panel, by cuts, that holds every old cut and k's", or 3, 4, 5
+    /// "the smallest good panel, by cuts, that holds every old cut and k's", or 3, 4, 10, 5
     pub fn split(&mut self, node: u32) -> Answer<()> {
         self.must_be_leaf(node)?;
         if depth(node) == self.depth {
@@ -226,7 +235,7 @@ impl Panel {
         Ok(())
     }
 
-    /// "takes back its parent's cut and, if the parent has an edge neighbour, that neighbour's cut", or 3, 4, 6, 7
+    /// "takes back its parent's cut and, if the parent has an edge neighbour, that neighbour's cut", or 3, 4, 10, 6, 7
     pub fn merge(&mut self, node: u32) -> Answer<()> {
         self.must_be_leaf(node)?;
         if depth(node) == 1 {

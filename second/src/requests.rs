@@ -3,7 +3,7 @@
 use std::fmt::Write;
 
 use crate::panel::Panel;
-use crate::{Answer, BAD_RECORD, WRONG_LENGTH};
+use crate::{Answer, BAD_RECORD, PANEL_IN_USE, WRONG_LENGTH};
 
 /// "Records of eight bytes"
 pub const RECORD: usize = 8;
@@ -43,15 +43,28 @@ pub struct Run {
 }
 
 impl Run {
+    /// "18, tested after 9 and 1, to an open while its panel has more than two leaves, and keeps that panel"
+    fn open(&mut self, depth: u32) -> Answer<()> {
+        let fresh = Panel::fresh(depth)?;
+        if self.panel.as_ref().is_some_and(|panel| panel.leaves().len() > 2) {
+            return Err(PANEL_IN_USE);
+        }
+        self.panel = Some(fresh);
+        Ok(())
+    }
+
     fn step(&mut self, record: &[u8]) -> Answer<()> {
         match decode(record)? {
-            (0, depth) => {
-                self.panel = Some(Panel::fresh(depth)?);
-                Ok(())
-            }
+            (0, depth) => self.open(depth),
             (1, node) => self.panel.as_mut().ok_or(WRONG_LENGTH)?.split(node),
             (_, node) => self.panel.as_mut().ok_or(WRONG_LENGTH)?.merge(node),
         }
+    }
+
+    /// Works through one more record. The program gives no ancestor.
+    pub fn take(&mut self, record: &[u8]) {
+        let answer = self.step(record).err().map_or(0, |refusal| refusal.number);
+        self.answers.push(answer);
     }
 
     /// "Each record prints one line: its number from 1, a space, its answer. After the last record, if a
@@ -67,10 +80,7 @@ impl Run {
 /// Works through a request file; a tail of 1 to 7 bytes is a record too, and a bad one.
 pub fn run(file: &[u8]) -> Run {
     let mut run = Run::default();
-    for record in file.chunks(RECORD).take(MOST_RECORDS) {
-        let answer = run.step(record).err().unwrap_or(0);
-        run.answers.push(answer);
-    }
+    file.chunks(RECORD).take(MOST_RECORDS).for_each(|record| run.take(record));
     run
 }
 

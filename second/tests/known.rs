@@ -1,11 +1,11 @@
-//! The values that document 01 gives, with the limits of request W5, and its laws where they can be tried on every node. Those of its
-//! known panels that it does not mark `[M]` are in compare/src/known.rs, which asks both programs.
+//! The values that document 01 gives, with the limits of request W5 and the refusals of W4, and its laws where they can be tried on every
+//! node. Those of its known panels that it does not mark `[M]` are in compare/src/known.rs, which asks both programs.
 
 use std::collections::BTreeSet;
 
 use second::calls::*;
 use second::panel::{closed, good, with_right_sums, Panel};
-use second::triangles::{depth, neighbours_of, Neighbours, GREATEST_DEPTH, LAST_NODE};
+use second::triangles::{depth, neighbours_of, Neighbours, GREATEST_DEPTH, LAST_NODE, LEAST_DEPTH};
 
 fn opened(depth: u32) -> Vec<u8> {
     let mut bytes = vec![0xEE; 1 << (depth - 1)];
@@ -15,7 +15,7 @@ fn opened(depth: u32) -> Vec<u8> {
 
 fn after(mut bytes: Vec<u8>, splits: &[u32]) -> Vec<u8> {
     for node in splits {
-        assert_eq!(split(&mut bytes, *node), 0, "split {node}");
+        assert_eq!(split(&mut bytes, *node), (0, 0), "split {node}");
     }
     bytes
 }
@@ -55,21 +55,20 @@ fn a_split_at_depth_4() {
 fn merges() {
     let mut four = after(opened(3), &[2]);
     let mut five = after(four.clone(), &[4]);
-    assert_eq!(merge(&mut four, 5), 0);
+    assert_eq!(merge(&mut four, 5), (0, 0));
     assert_eq!(leaves(&four), [2, 3]);
     let before = five.clone();
-    assert_eq!(merge(&mut five, 5), 7);
+    assert_eq!(merge(&mut five, 5), (7, 0));
     assert_eq!(five, before);
-    assert_eq!(merge(&mut five, 9), 0);
+    assert_eq!(merge(&mut five, 9), (0, 0));
     assert_eq!(leaves(&five), [4, 5, 6, 7]);
 }
 
 #[test]
 fn refusals() {
     let five = after(opened(3), &[2, 4]);
-    assert_eq!(split(&mut five.clone(), 4), 4);
-    assert_eq!(split(&mut five.clone(), 16), 3);
-    assert_eq!(merge(&mut five.clone(), 1), 3);
+    assert_eq!(split(&mut five.clone(), 16), (3, 0));
+    assert_eq!(merge(&mut five.clone(), 1), (3, 0));
     for spare in 0..2 {
         let mut bytes = five.clone();
         bytes[0] += 1 << spare;
@@ -79,6 +78,44 @@ fn refusals() {
         let mut bytes = five.clone();
         assert_eq!(open(&mut bytes, depth), 1);
         assert_eq!(bytes, five);
+    }
+}
+
+/// All three calls that take a node and a panel refuse the node with this answer and this ancestor, and leave the panel.
+fn refuse(bytes: &[u8], node: u32, answer: u32, ancestor: u32) {
+    assert_eq!(number_of(bytes, node), (answer, (0, ancestor)), "number of leaf {node}");
+    for call in [split, merge] {
+        let mut lent = bytes.to_vec();
+        assert_eq!((call(&mut lent, node), &lent[..]), ((answer, ancestor), bytes), "split or merge {node}");
+    }
+}
+
+#[test]
+fn cut_or_below_a_leaf() {
+    let fresh = opened(3);
+    (4..6).chain(8..12).for_each(|node| refuse(&fresh, node, 10, 2));
+    (6..8).chain(12..16).for_each(|node| refuse(&fresh, node, 10, 3));
+    let four = after(fresh, &[2]);
+    (2..4).for_each(|node| refuse(&four, node, 4, 0));
+    (8..16).for_each(|node| refuse(&four, node, 10, node / 2));
+    let five = after(four, &[4]);
+    (2..5).for_each(|node| refuse(&five, node, 4, 0));
+    (10..16).for_each(|node| refuse(&five, node, 10, node / 2));
+    (2..8).for_each(|node| refuse(&after(five.clone(), &[5, 6, 7]), node, 4, 0));
+}
+
+#[test]
+fn ancestors_at_every_distance() {
+    for depth in LEAST_DEPTH..=GREATEST_DEPTH {
+        let fresh = opened(depth);
+        for distance in 1..depth {
+            refuse(&fresh, 2 << distance, 10, 2);
+            refuse(&fresh, (4 << distance) - 1, 10, 3);
+        }
+        let five = after(fresh, &[2, 4]);
+        for distance in 1..depth - 1 {
+            refuse(&five, (6 << distance) - 1, 10, 5);
+        }
     }
 }
 
@@ -107,10 +144,11 @@ fn nodes_to_262_143() {
         assert_eq!(corners(node), (3, [[0; 2]; 3]));
     }
     let fresh = opened(17);
-    assert_eq!((number_of(&fresh, 262_143), number_of(&fresh, 262_144)), ((4, 0), (3, 0)));
+    refuse(&fresh, 262_143, 10, 3);
+    refuse(&fresh, 262_144, 3, 0);
     let finest = Panel::holding(17, &BTreeSet::from([131_071])).bytes();
-    assert_eq!(split(&mut finest.clone(), 262_143), 5);
-    assert_eq!(merge(&mut finest.clone(), 262_143), 0);
+    assert_eq!(split(&mut finest.clone(), 262_143), (5, 0));
+    assert_eq!(merge(&mut finest.clone(), 262_143), (0, 0));
 }
 
 #[test]

@@ -1,4 +1,4 @@
-//! Request files: document 01's example, and what its rules say at the limits.
+//! Request files: document 01's example, and what its rules and those of request W4 say at the limits.
 
 use second::requests::{records_of_text, run, text_of_records};
 
@@ -6,11 +6,20 @@ fn printed(text: &str) -> String {
     run(&records_of_text(text).unwrap()).printed()
 }
 
+/// Each request has the answer that stands beside it, and the panel that is left has these leaves.
+fn answered(requests: &[(&str, u32)], leaves: &[u32]) {
+    let text: String = requests.iter().map(|(request, _)| format!("{request}\n")).collect();
+    let run = run(&records_of_text(&text).unwrap());
+    let answers: Vec<u32> = requests.iter().map(|(_, answer)| *answer).collect();
+    assert_eq!(run.answers, answers);
+    assert_eq!(run.panel.unwrap().leaves(), leaves);
+}
+
 #[test]
 fn the_example() {
     assert_eq!(
         printed("open 3\nsplit 2\nsplit 8\nsplit 4\n"),
-        "1 0\n2 0\n3 4\n4 0\n0 8\n1 9\n2 5\n3 6\n4 7\n"
+        "1 0\n2 0\n3 10\n4 0\n0 8\n1 9\n2 5\n3 6\n4 7\n"
     );
 }
 
@@ -25,17 +34,52 @@ fn before_an_open() {
 }
 
 #[test]
+fn cut_or_below_a_leaf() {
+    answered(&[("open 4", 0), ("split 4", 10), ("merge 8", 10), ("split 31", 10)], &[2, 3]);
+    let cut =
+        [("open 4", 0), ("split 3", 0), ("split 2", 4), ("merge 3", 4), ("split 9", 10), ("merge 31", 10)];
+    answered(&cut, &[4, 5, 6, 7]);
+}
+
+#[test]
 fn a_refused_open_keeps_the_panel() {
-    assert_eq!(printed("open 3\nsplit 2\nopen 99"), "1 0\n2 0\n3 1\n0 4\n1 5\n2 6\n3 7\n");
-    assert_eq!(printed("open 3\nsplit 2\nopen 5"), "1 0\n2 0\n3 0\n0 2\n1 3\n");
+    answered(&[("open 3", 0), ("open 99", 1)], &[2, 3]);
+    answered(&[("open 3", 0), ("split 2", 0), ("open 99", 1)], &[4, 5, 6, 7]);
+    answered(&[("open 3", 0), ("split 2", 0), ("open 5", 18)], &[4, 5, 6, 7]);
+    answered(&[("open 3", 0), ("split 2", 0), ("open 3", 18), ("split 4", 0)], &[8, 9, 5, 6, 7]);
+}
+
+#[test]
+fn nine_and_one_come_before_eighteen() {
+    let refused = [
+        ("open 3", 0),
+        ("split 2", 0),
+        ("bytes 00 00 01 00 04 00 00 00", 9),
+        ("bytes 00 00 00 01 02 00 00 00", 9),
+        ("open 2", 1),
+        ("open 18", 1),
+        ("open 17", 18),
+        ("bytes 00 00 00 00 03", 9),
+    ];
+    answered(&refused, &[4, 5, 6, 7]);
+}
+
+#[test]
+fn two_leaves_may_be_opened_anew() {
+    answered(&[("open 3", 0), ("open 3", 0), ("open 17", 0), ("open 4", 0), ("split 16", 10)], &[2, 3]);
+    let merged_back =
+        [("open 3", 0), ("split 2", 0), ("split 4", 0), ("merge 8", 0), ("open 3", 18), ("merge 6", 0)];
+    answered(&[&merged_back[..], &[("open 3", 0), ("split 16", 3)]].concat(), &[2, 3]);
+    answered(&[&merged_back[..], &[("open 4", 0), ("split 16", 10), ("split 3", 0)]].concat(), &[4, 5, 6, 7]);
 }
 
 #[test]
 fn the_finest_the_coarsest_and_back() {
-    let there = "open 17\nsplit 2\nopen 3\nsplit 8\n";
-    assert_eq!(printed(there), "1 0\n2 0\n3 0\n4 4\n0 2\n1 3\n");
-    let back = format!("{there}split 2\nopen 17\nsplit 4\nmerge 262143\nmerge 262144\n");
-    assert_eq!(printed(&back), "1 0\n2 0\n3 0\n4 4\n5 0\n6 0\n7 4\n8 4\n9 3\n0 2\n1 3\n");
+    let there =
+        [("open 17", 0), ("split 2", 0), ("open 3", 18), ("merge 4", 0), ("open 3", 0), ("split 8", 10)];
+    answered(&there, &[2, 3]);
+    let back = [("split 2", 0), ("merge 7", 0), ("open 17", 0), ("merge 262143", 10), ("merge 262144", 3)];
+    answered(&[&there[..], &back[..]].concat(), &[2, 3]);
 }
 
 #[test]
