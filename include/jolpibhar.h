@@ -1,7 +1,11 @@
 /* The panel scanner's calls for C. README.md says what each does.
  *
  * Each call returns the answer's number: PANEL_DONE, or why it is refused. Beside a refusal every number that
- * a call writes through a pointer is 0, and all bytes of the panel are as before.
+ * a call writes through a pointer is 0, but for the ancestor beside PANEL_BELOW_LEAF, and all bytes of the panel are
+ * as before.
+ *
+ * panel_number, panel_split and panel_merge write an ancestor: beside PANEL_BELOW_LEAF the one leaf among the node's
+ * ancestors, and 0 beside every other answer, PANEL_DONE too.
  *
  * A panel is lent as a pointer and its length in bytes, `len`. Pointers are not null, also where the length is 0, and
  * no two arguments of one call point to the same place. A call keeps no pointer and writes nothing outside
@@ -19,9 +23,9 @@
 #include <stdint.h>
 
 #define JOLPIBHAR_VERSION_MAJOR 0
-#define JOLPIBHAR_VERSION_MINOR 3
+#define JOLPIBHAR_VERSION_MINOR 4
 #define JOLPIBHAR_VERSION_PATCH 0
-#define JOLPIBHAR_VERSION "0.3.0"
+#define JOLPIBHAR_VERSION "0.4.0"
 
 /* The depth of the finest panel; the coarsest is of depth 3. */
 #define PANEL_GREATEST_DEPTH 17
@@ -33,18 +37,20 @@
 extern "C" {
 #endif
 
-/* The lowest number that applies is answered. */
+/* In the order of testing: the first that applies is answered. */
 enum {
     PANEL_DONE = 0,
     PANEL_WRONG_LENGTH = 1,      /* length isn't 2^(D-1) for a D of 3 to 17; on open, also a depth out of range or that doesn't fit */
     PANEL_NOT_GOOD = 2,          /* length fits, panel isn't good */
     PANEL_NO_SUCH_NODE = 3,      /* node below 2, or above 2^(D+1)-1 (above 262,143 for calls that take no panel) */
-    PANEL_NOT_LEAF = 4,          /* node is in range but isn't a leaf */
+    PANEL_IS_CUT = 4,            /* node is in range and is itself cut */
+    PANEL_BELOW_LEAF = 10,       /* node is in range and an ancestor of it is the leaf */
     PANEL_AT_GREATEST_DEPTH = 5, /* leaf is at depth D */
     PANEL_AT_DEPTH_ONE = 6,      /* leaf is at depth 1 */
     PANEL_LEAVES_MISSING = 7,    /* leaf is deeper, but not all the leaves the merge needs are there */
     PANEL_NO_SUCH_NUMBER = 8,    /* leaf number is at or above the count */
-    PANEL_BAD_RECORD = 9         /* given by the program, never by these calls */
+    PANEL_BAD_RECORD = 9,        /* given by the program, never by these calls; tested before all others */
+    PANEL_IN_USE = 18            /* given by the program, never by these calls: an open while its panel has more than two leaves */
 };
 
 /* ---- calls that take no panel: nodes from 2 to 262,143 */
@@ -66,8 +72,8 @@ uint32_t panel_count(const uint8_t *panel, size_t len, uint32_t *count);
 /* The node of a leaf number, from 0 up, from left to right. Answers 0, 1, 2, 8. */
 uint32_t panel_leaf(const uint8_t *panel, size_t len, uint32_t number, uint32_t *node);
 
-/* The leaf number of a node. Answers 0, 1, 2, 3, 4. */
-uint32_t panel_number(const uint8_t *panel, size_t len, uint32_t node, uint32_t *number);
+/* The leaf number of a node. Answers 0, 1, 2, 3, 4, 10. */
+uint32_t panel_number(const uint8_t *panel, size_t len, uint32_t node, uint32_t *number, uint32_t *ancestor);
 
 /* Which bytes of the panel the leaf bits fill: the place of the first, and how many. Answers 0, 1, 2. */
 uint32_t panel_leaf_bits(const uint8_t *panel, size_t len, size_t *start, size_t *size);
@@ -77,11 +83,11 @@ uint32_t panel_leaf_bits(const uint8_t *panel, size_t len, size_t *start, size_t
 /* Writes every byte: the fresh panel of this depth, with the leaves 2 and 3. Answers 0, 1. */
 uint32_t panel_open(uint8_t *panel, size_t len, uint32_t depth);
 
-/* Cuts a leaf, and what must be cut with it so that the panel stays good. Answers 0, 1, 2, 3, 4, 5. */
-uint32_t panel_split(uint8_t *panel, size_t len, uint32_t node);
+/* Cuts a leaf, and what must be cut with it so that the panel stays good. Answers 0, 1, 2, 3, 4, 10, 5. */
+uint32_t panel_split(uint8_t *panel, size_t len, uint32_t node, uint32_t *ancestor);
 
-/* Takes back the cut that made a leaf, and the one across the long side. Answers 0, 1, 2, 3, 4, 6, 7. */
-uint32_t panel_merge(uint8_t *panel, size_t len, uint32_t node);
+/* Takes back the cut that made a leaf, and the one across the long side. Answers 0, 1, 2, 3, 4, 10, 6, 7. */
+uint32_t panel_merge(uint8_t *panel, size_t len, uint32_t node, uint32_t *ancestor);
 
 #ifdef __cplusplus
 }

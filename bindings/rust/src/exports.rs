@@ -19,11 +19,17 @@ mod archive {
         pub fn panel_judge(panel: *const u8, len: usize) -> u32;
         pub fn panel_count(panel: *const u8, len: usize, count: *mut u32) -> u32;
         pub fn panel_leaf(panel: *const u8, len: usize, number: u32, node: *mut u32) -> u32;
-        pub fn panel_number(panel: *const u8, len: usize, node: u32, number: *mut u32) -> u32;
+        pub fn panel_number(
+            panel: *const u8,
+            len: usize,
+            node: u32,
+            number: *mut u32,
+            ancestor: *mut u32,
+        ) -> u32;
         pub fn panel_leaf_bits(panel: *const u8, len: usize, start: *mut usize, size: *mut usize) -> u32;
         pub fn panel_open(panel: *mut u8, len: usize, depth: u32) -> u32;
-        pub fn panel_split(panel: *mut u8, len: usize, node: u32) -> u32;
-        pub fn panel_merge(panel: *mut u8, len: usize, node: u32) -> u32;
+        pub fn panel_split(panel: *mut u8, len: usize, node: u32, ancestor: *mut u32) -> u32;
+        pub fn panel_merge(panel: *mut u8, len: usize, node: u32, ancestor: *mut u32) -> u32;
     }
 }
 
@@ -65,11 +71,13 @@ pub fn leaf(panel: &[u8], number: u32, before: u32) -> (u32, u32) {
     (answer, node)
 }
 
+/// The answer, the leaf's number and the ancestor.
 #[inline]
-pub fn number(panel: &[u8], node: u32, before: u32) -> (u32, u32) {
-    let mut number = before;
-    let answer = unsafe { archive::panel_number(panel.as_ptr(), panel.len(), node, &mut number) };
-    (answer, number)
+pub fn number(panel: &[u8], node: u32, before: u32) -> (u32, (u32, u32)) {
+    let [mut number, mut ancestor] = [before; 2];
+    let answer =
+        unsafe { archive::panel_number(panel.as_ptr(), panel.len(), node, &mut number, &mut ancestor) };
+    (answer, (number, ancestor))
 }
 
 #[inline]
@@ -84,12 +92,18 @@ pub fn open(panel: &mut [u8], depth: u32) -> u32 {
     unsafe { archive::panel_open(panel.as_mut_ptr(), panel.len(), depth) }
 }
 
+/// The answer, and the ancestor.
 #[inline]
-pub fn split(panel: &mut [u8], node: u32) -> u32 {
-    unsafe { archive::panel_split(panel.as_mut_ptr(), panel.len(), node) }
+pub fn split(panel: &mut [u8], node: u32, before: u32) -> (u32, u32) {
+    let mut ancestor = before;
+    let answer = unsafe { archive::panel_split(panel.as_mut_ptr(), panel.len(), node, &mut ancestor) };
+    (answer, ancestor)
 }
 
+/// The answer, and the ancestor.
 #[inline]
-pub fn merge(panel: &mut [u8], node: u32) -> u32 {
-    unsafe { archive::panel_merge(panel.as_mut_ptr(), panel.len(), node) }
+pub fn merge(panel: &mut [u8], node: u32, before: u32) -> (u32, u32) {
+    let mut ancestor = before;
+    let answer = unsafe { archive::panel_merge(panel.as_mut_ptr(), panel.len(), node, &mut ancestor) };
+    (answer, ancestor)
 }

@@ -13,8 +13,9 @@
 //!
 //! let mut panel = Panel::fresh(3)?; // leaves 2 and 3
 //! panel.split(Node(2))?; // and 3 with it: triangles meet side to side
-//! assert_eq!(panel.split(Node(8)), Err(Refusal::NotLeaf)); // there is no node 8 yet
+//! assert_eq!(panel.split(Node(8)), Err(Refusal::BelowLeaf(Node(4)))); // there is no node 8 yet, and 4 is what to cut first
 //! panel.split(Node(4))?;
+//! assert_eq!(panel.split(Node(4)), Err(Refusal::IsCut));
 //!
 //! let mut leaves = Vec::new();
 //! for number in 0..panel.count()? {
@@ -129,10 +130,10 @@ impl<B: AsRef<[u8]>> Panel<B> {
         done(answer, Node(node))
     }
 
-    /// The number of a leaf. Refused: 1, 2, 3, 4.
+    /// The number of a leaf. Refused: 1, 2, 3, 4, 10.
     pub fn number_of(&self, leaf: Node) -> Result<LeafNumber, Refusal> {
-        let (answer, number) = exports::number(self.bytes(), leaf.0, 0);
-        done(answer, LeafNumber(number))
+        let (answer, (number, ancestor)) = exports::number(self.bytes(), leaf.0, 0);
+        done_or_below(answer, ancestor, LeafNumber(number))
     }
 
     /// The leaf bits: those bytes of the panel themselves. Refused: 1, 2.
@@ -149,21 +150,28 @@ impl<B: AsRef<[u8]> + AsMut<[u8]>> Panel<B> {
         done(exports::open(self.0.as_mut(), depth), ())
     }
 
-    /// Cuts a leaf, and what must be cut with it so that the panel stays good. Refused: 1, 2, 3, 4, 5.
+    /// Cuts a leaf, and what must be cut with it so that the panel stays good. Refused: 1, 2, 3, 4, 10, 5.
     pub fn split(&mut self, leaf: Node) -> Result<(), Refusal> {
-        done(exports::split(self.0.as_mut(), leaf.0), ())
+        let (answer, ancestor) = exports::split(self.0.as_mut(), leaf.0, 0);
+        done_or_below(answer, ancestor, ())
     }
 
-    /// Takes back the cut that made a leaf, and the one across the long side. Refused: 1, 2, 3, 4, 6, 7.
+    /// Takes back the cut that made a leaf, and the one across the long side. Refused: 1, 2, 3, 4, 10, 6, 7.
     pub fn merge(&mut self, leaf: Node) -> Result<(), Refusal> {
-        done(exports::merge(self.0.as_mut(), leaf.0), ())
+        let (answer, ancestor) = exports::merge(self.0.as_mut(), leaf.0, 0);
+        done_or_below(answer, ancestor, ())
     }
 }
 
-/// What a call hands out where its answer is 0, and else the refusal.
+/// What a call hands out where its answer is 0, and else the refusal. A call that hands out no ancestor never answers 10.
 fn done<T>(answer: u32, given: T) -> Result<T, Refusal> {
+    done_or_below(answer, 0, given)
+}
+
+/// The same of a call that hands out an ancestor.
+fn done_or_below<T>(answer: u32, ancestor: u32, given: T) -> Result<T, Refusal> {
     match answer {
         0 => Ok(given),
-        number => Err(Refusal::of_number(number).expect("a call answers 0 to 9")),
+        number => Err(Refusal::of_answer(number, ancestor).expect("a number of the table, and its ancestor")),
     }
 }

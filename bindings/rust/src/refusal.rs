@@ -2,52 +2,71 @@
 
 use std::fmt;
 
-/// Why a call is refused, by the numbers of the customer's table. The lowest that applies is answered.
-#[derive(Clone, Copy, Debug, PartialEq, Eq, PartialOrd, Ord, Hash)]
-#[repr(u32)]
+use crate::Node;
+
+/// Why a call is refused, by the customer's table. The first that applies is answered; they are tested in the order in which they
+/// stand here.
+#[derive(Clone, Copy, Debug, PartialEq, Eq, Hash)]
 pub enum Refusal {
-    /// The length isn't 2^(D−1) bytes for a depth D of 3 to 17; on open, also a depth that is out of range or doesn't fit the length.
-    WrongLength = 1,
-    /// The length fits, the panel isn't good.
-    NotGood = 2,
-    /// The node is below 2, or above 2^(D+1)−1 (above 262,143 for calls that take no panel).
-    NoSuchNode = 3,
-    /// The node is in range but isn't a leaf.
-    NotLeaf = 4,
-    /// The leaf is at depth D and can't be cut.
-    AtGreatestDepth = 5,
-    /// The leaf is at depth 1 and can't be merged.
-    AtDepthOne = 6,
-    /// Not all the leaves that the merge needs are there.
-    LeavesMissing = 7,
-    /// There are not so many leaves.
-    NoSuchNumber = 8,
-    /// A bad record: given by the scanner program, never by a call.
-    BadRecord = 9,
+    /// 1: the length isn't 2^(D−1) bytes for a depth D of 3 to 17; on open, also a depth that is out of range or doesn't fit the length.
+    WrongLength,
+    /// 2: the length fits, the panel isn't good.
+    NotGood,
+    /// 3: the node is below 2, or above 2^(D+1)−1 (above 262,143 for calls that take no panel).
+    NoSuchNode,
+    /// 4: the node is in range and is itself cut.
+    IsCut,
+    /// 10: the node is in range and an ancestor of it is the leaf. It holds that leaf.
+    BelowLeaf(Node),
+    /// 5: the leaf is at depth D and can't be cut.
+    AtGreatestDepth,
+    /// 6: the leaf is at depth 1 and can't be merged.
+    AtDepthOne,
+    /// 7: not all the leaves that the merge needs are there.
+    LeavesMissing,
+    /// 8: there are not so many leaves.
+    NoSuchNumber,
+    /// 9: a bad record. Given by the scanner program, which tests it first, never by a call.
+    BadRecord,
+    /// 18: an open while the panel has more than two leaves. Given by the scanner program, never by a call.
+    PanelInUse,
 }
 
 impl Refusal {
-    /// Every refusal, in the order of its number.
-    pub const ALL: [Refusal; 9] = [
-        Refusal::WrongLength,
-        Refusal::NotGood,
-        Refusal::NoSuchNode,
-        Refusal::NotLeaf,
-        Refusal::AtGreatestDepth,
-        Refusal::AtDepthOne,
-        Refusal::LeavesMissing,
-        Refusal::NoSuchNumber,
-        Refusal::BadRecord,
-    ];
-
-    /// Its number, 1 to 9.
+    /// Its number in the customer's table.
     pub fn number(self) -> u32 {
-        self as u32
+        match self {
+            Refusal::WrongLength => 1,
+            Refusal::NotGood => 2,
+            Refusal::NoSuchNode => 3,
+            Refusal::IsCut => 4,
+            Refusal::BelowLeaf(_) => 10,
+            Refusal::AtGreatestDepth => 5,
+            Refusal::AtDepthOne => 6,
+            Refusal::LeavesMissing => 7,
+            Refusal::NoSuchNumber => 8,
+            Refusal::BadRecord => 9,
+            Refusal::PanelInUse => 18,
+        }
     }
 
-    /// The refusal of a number; none of 0, which is done, and of those above 9.
-    pub fn of_number(number: u32) -> Option<Refusal> {
-        Refusal::ALL.into_iter().find(|refusal| refusal.number() == number)
+    /// The refusal of an answer's number and the ancestor beside it, which is 0 beside all but 10. None of other pairs, and of
+    /// 0, which is done.
+    pub fn of_answer(number: u32, ancestor: u32) -> Option<Refusal> {
+        match (number, ancestor) {
+            (1, 0) => Some(Refusal::WrongLength),
+            (2, 0) => Some(Refusal::NotGood),
+            (3, 0) => Some(Refusal::NoSuchNode),
+            (4, 0) => Some(Refusal::IsCut),
+            (10, 2..) => Some(Refusal::BelowLeaf(Node(ancestor))),
+            (5, 0) => Some(Refusal::AtGreatestDepth),
+            (6, 0) => Some(Refusal::AtDepthOne),
+            (7, 0) => Some(Refusal::LeavesMissing),
+            (8, 0) => Some(Refusal::NoSuchNumber),
+            (9, 0) => Some(Refusal::BadRecord),
+            (18, 0) => Some(Refusal::PanelInUse),
+            _ => None,
+        }
     }
 }
 
@@ -57,12 +76,14 @@ impl fmt::Display for Refusal {
             Refusal::WrongLength => "the length is that of no panel, or the depth doesn't fit it",
             Refusal::NotGood => "the panel isn't good",
             Refusal::NoSuchNode => "there is no such node",
-            Refusal::NotLeaf => "the node isn't a leaf",
+            Refusal::IsCut => "the node is itself cut",
+            Refusal::BelowLeaf(Node(leaf)) => return write!(f, "the node is below leaf {leaf}"),
             Refusal::AtGreatestDepth => "the leaf is at the greatest depth and can't be cut",
             Refusal::AtDepthOne => "the leaf is at depth 1 and can't be merged",
             Refusal::LeavesMissing => "not all the leaves that the merge needs are there",
             Refusal::NoSuchNumber => "there are not so many leaves",
             Refusal::BadRecord => "the record is bad",
+            Refusal::PanelInUse => "the panel has more than two leaves",
         })
     }
 }

@@ -18,11 +18,28 @@ fn every_refusal_of_a_call() {
     assert_eq!(five().number_of(Node(16)), Err(Refusal::NoSuchNode));
     assert_eq!(Node(1).neighbours(), Err(Refusal::NoSuchNode));
     assert_eq!(Node(262_144).corners(), Err(Refusal::NoSuchNode));
-    assert_eq!(five().number_of(Node(4)), Err(Refusal::NotLeaf));
+    assert_eq!(five().number_of(Node(4)), Err(Refusal::IsCut));
+    assert_eq!(five().number_of(Node(10)), Err(Refusal::BelowLeaf(Node(5))));
     assert_eq!(five().split(Node(8)), Err(Refusal::AtGreatestDepth));
     assert_eq!(Panel::fresh(3).unwrap().merge(Node(2)), Err(Refusal::AtDepthOne));
     assert_eq!(five().merge(Node(5)), Err(Refusal::LeavesMissing));
     assert_eq!(five().leaf_at(LeafNumber(5)), Err(Refusal::NoSuchNumber));
+}
+
+#[test]
+fn cut_or_below_a_leaf() {
+    let fresh = Panel::fresh(3).unwrap();
+    for (node, leaf) in [(4, 2), (7, 3), (8, 2), (11, 2), (12, 3), (15, 3)] {
+        let refused = Refusal::BelowLeaf(Node(leaf));
+        assert_eq!(fresh.number_of(Node(node)), Err(refused));
+        assert_eq!(fresh.clone().split(Node(node)), Err(refused));
+        assert_eq!(fresh.clone().merge(Node(node)), Err(refused));
+    }
+    for node in [2, 3, 4].map(Node) {
+        assert_eq!(five().number_of(node), Err(Refusal::IsCut));
+        assert_eq!(five().split(node), Err(Refusal::IsCut));
+        assert_eq!(five().merge(node), Err(Refusal::IsCut));
+    }
 }
 
 #[test]
@@ -49,17 +66,23 @@ fn nodes_to_262_143() {
     assert_eq!(last.corners(), Ok([[1, 255], [1, 256], [0, 256]]));
     assert_eq!(Node(262_144).neighbours(), Err(Refusal::NoSuchNode));
     let fresh = Panel::fresh(17).unwrap();
-    assert_eq!(fresh.number_of(last), Err(Refusal::NotLeaf));
+    assert_eq!(fresh.number_of(last), Err(Refusal::BelowLeaf(Node(3))));
     assert_eq!(fresh.number_of(Node(262_144)), Err(Refusal::NoSuchNode));
 }
 
 #[test]
 fn numbers_of_refusals() {
-    let numbers: Vec<u32> = Refusal::ALL.iter().map(|refusal| refusal.number()).collect();
-    assert_eq!(numbers, [1, 2, 3, 4, 5, 6, 7, 8, 9]);
-    assert!(Refusal::ALL.iter().all(|refusal| Refusal::of_number(refusal.number()) == Some(*refusal)));
-    assert_eq!([0, 10, u32::MAX].map(Refusal::of_number), [None; 3]);
-    assert_eq!(Refusal::NotLeaf.to_string(), "the node isn't a leaf");
+    for number in (1..=9).chain([18]) {
+        let alone = Refusal::of_answer(number, 0).unwrap();
+        assert_eq!((alone.number(), Refusal::of_answer(number, 4)), (number, None));
+    }
+    let below = Refusal::BelowLeaf(Node(4));
+    assert_eq!((below.number(), Refusal::of_answer(10, 4)), (10, Some(below)));
+    for other in [(0, 0), (0, 4), (10, 0), (10, 1), (11, 0), (17, 0), (19, 0), (u32::MAX, 0)] {
+        assert_eq!(Refusal::of_answer(other.0, other.1), None);
+    }
+    assert_eq!(Refusal::IsCut.to_string(), "the node is itself cut");
+    assert_eq!(below.to_string(), "the node is below leaf 4");
 }
 
 #[test]
@@ -67,7 +90,7 @@ fn bytes_of_any_owner() {
     let mut bytes = [0xFF; 6];
     let mut lent = Panel::over(&mut bytes[1..5]);
     lent.open(3).unwrap();
-    assert_eq!(lent.split(Node(4)), Err(Refusal::NotLeaf));
+    assert_eq!(lent.split(Node(4)), Err(Refusal::BelowLeaf(Node(2))));
     lent.split(Node(3)).unwrap();
     assert_eq!(bytes, [0xFF, 0x0C, 0x49, 0x55, 0x55, 0xFF]);
     let read = Panel::over(&bytes[1..5]);

@@ -1,4 +1,6 @@
-//! The C header and the crate are one release: they say the same version, and the same greatest depth.
+//! The C header and the crate are one release: they say the same version, the same greatest depth and the same numbers.
+
+use jolpibhar::{Node, Refusal, GREATEST_DEPTH};
 
 const HEADER: &str = include_str!("../../../include/jolpibhar.h");
 
@@ -21,5 +23,27 @@ fn the_header_says_the_version() {
 
 #[test]
 fn the_header_says_the_greatest_depth() {
-    assert_eq!(defined("PANEL_GREATEST_DEPTH"), jolpibhar::GREATEST_DEPTH.to_string());
+    assert_eq!(defined("PANEL_GREATEST_DEPTH"), GREATEST_DEPTH.to_string());
+}
+
+#[test]
+fn the_header_says_the_numbers() {
+    let names = [
+        ("WRONG_LENGTH", Refusal::WrongLength),
+        ("NOT_GOOD", Refusal::NotGood),
+        ("NO_SUCH_NODE", Refusal::NoSuchNode),
+        ("IS_CUT", Refusal::IsCut),
+        ("BELOW_LEAF", Refusal::BelowLeaf(Node(2))),
+        ("AT_GREATEST_DEPTH", Refusal::AtGreatestDepth),
+        ("AT_DEPTH_ONE", Refusal::AtDepthOne),
+        ("LEAVES_MISSING", Refusal::LeavesMissing),
+        ("NO_SUCH_NUMBER", Refusal::NoSuchNumber),
+        ("BAD_RECORD", Refusal::BadRecord),
+        ("IN_USE", Refusal::PanelInUse),
+    ];
+    for (name, refusal) in names {
+        let line = format!("    PANEL_{name} = {}", refusal.number());
+        let says = |text: &str| text.strip_prefix(&line).is_some_and(|rest| rest.starts_with([',', ' ']));
+        assert!(HEADER.lines().any(says), "{line}");
+    }
 }
