@@ -1,5 +1,6 @@
-//! The values of document 01's section "Known panels" that it does not mark `[M]`, in its order, and the limits of request W5. Each is
-//! asked of the second program and of the exported calls, and both must answer what stands here: the two agreeing is not enough.
+//! The values of document 01's section "Known panels" that it does not mark `[M]`, in its order, the limits of request W5, and what
+//! request W4 says on 01's panels of depth 3. Each is asked of the second program and of the exported calls, and both must answer what
+//! stands here: the two agreeing is not enough.
 
 use jolpibhar::exports;
 use second::calls;
@@ -23,7 +24,8 @@ enum Call {
 }
 use Call::*;
 
-/// The answer's number, and the numbers handed out beside it, 0 where a call has none.
+/// The answer's number, and the numbers handed out beside it, 0 where a call has none: a number and an ancestor, or where a part
+/// starts and its size.
 type Told = (u32, [usize; 2]);
 
 /// The second program or the exported calls.
@@ -32,8 +34,12 @@ type Side = fn(Call, &mut [u8]) -> Told;
 /// What is said; the panels and the calls that it is said of, each call on each panel; what they answer.
 type Known = (&'static str, &'static [&'static [u8]], &'static [Call], Told);
 
-// Panels of depth 3, by the bytes that 01 gives: leaves 2, 3; leaves 8, 9, 5, 6, 7; all cut.
+/// What is said; a panel and nodes of it that are no leaves; what each call that takes a node answers, and the ancestor beside it.
+type NoLeaves = (&'static str, &'static [u8], &'static [u32], u32, usize);
+
+// Panels of depth 3, by the bytes that 01 gives: leaves 2, 3; leaves 4, 5, 6, 7; leaves 8, 9, 5, 6, 7; all cut.
 const FRESH: &[u8] = &[0x8C, 0x24, 0x11, 0x11];
+const FOUR: &[u8] = &[0x0C, 0x49, 0x55, 0x55];
 const FIVE: &[u8] = &[0x4C, 0x4D, 0x56, 0x57];
 const ALL_CUT: &[u8] = &[0x0C, 0x92, 0xAA, 0xFF];
 
@@ -71,6 +77,19 @@ const KNOWN: &[Known] = &[
     ("refusal 2: length fits, panel isn't good", ZEROS, JUDGING, (2, [0, 0])),
 ];
 
+/// What W4 says of nodes that are no leaves, to number of leaf, split and merge alike.
+const NO_LEAVES: &[NoLeaves] = &[
+    ("4 means the node is itself cut", FOUR, &[2, 3], 4, 0),
+    ("4 means the node is itself cut", FIVE, &[2, 3, 4], 4, 0),
+    ("4 means the node is itself cut", ALL_CUT, &[2, 3, 4, 5, 6, 7], 4, 0),
+    ("10 means an ancestor is the leaf", FRESH, &[4, 5, 8, 9, 10, 11], 10, 2),
+    ("10 means an ancestor is the leaf", FRESH, &[6, 7, 12, 13, 14, 15], 10, 3),
+    ("10 means an ancestor is the leaf", FOUR, &[8, 9], 10, 4),
+    ("10 means an ancestor is the leaf", FIVE, &[10, 11], 10, 5),
+    ("10 means an ancestor is the leaf", FIVE, &[12, 13], 10, 6),
+    ("10 means an ancestor is the leaf", FIVE, &[14, 15], 10, 7),
+];
+
 /// What W5 says of finer panels: a depth, its length and its last node.
 const FINER: &[(&str, u32, usize, u32)] = &[
     ("length 16,384 is now good for D = 15", 15, 16_384, 65_535),
@@ -85,6 +104,14 @@ fn with((answer, number): (u32, u32)) -> Told {
     (answer, [number as usize, 0])
 }
 
+fn with_ancestor((answer, ancestor): (u32, u32)) -> Told {
+    (answer, [0, ancestor as usize])
+}
+
+fn with_both((answer, (number, ancestor)): (u32, (u32, u32))) -> Told {
+    (answer, [number as usize, ancestor as usize])
+}
+
 fn with_part((answer, (start, size)): (u32, (usize, usize))) -> Told {
     (answer, [start, size])
 }
@@ -95,10 +122,10 @@ fn by_second(call: Call, panel: &mut [u8]) -> Told {
         Judge => alone(calls::judge(panel)),
         Count => with(calls::count(panel)),
         LeafAt(number) => with(calls::leaf_at(panel, number)),
-        NumberOf(node) => with(calls::number_of(panel, node)),
+        NumberOf(node) => with_both(calls::number_of(panel, node)),
         LeafBits => with_part(calls::leaf_bits(panel)),
-        Split(node) => alone(calls::split(panel, node)),
-        Merge(node) => alone(calls::merge(panel, node)),
+        Split(node) => with_ancestor(calls::split(panel, node)),
+        Merge(node) => with_ancestor(calls::merge(panel, node)),
     }
 }
 
@@ -108,10 +135,10 @@ fn by_exports(call: Call, panel: &mut [u8]) -> Told {
         Judge => alone(exports::judge(panel)),
         Count => with(exports::count(panel, JUNK)),
         LeafAt(number) => with(exports::leaf(panel, number, JUNK)),
-        NumberOf(node) => with(exports::number(panel, node, JUNK)),
+        NumberOf(node) => with_both(exports::number(panel, node, JUNK)),
         LeafBits => with_part(exports::leaf_bits(panel, JUNK)),
-        Split(node) => alone(exports::split(panel, node)),
-        Merge(node) => alone(exports::merge(panel, node)),
+        Split(node) => with_ancestor(exports::split(panel, node, JUNK)),
+        Merge(node) => with_ancestor(exports::merge(panel, node, JUNK)),
     }
 }
 
@@ -125,12 +152,24 @@ fn one(says: &str, panel: &[u8], call: Call, known: Told, after: &[u8]) -> Compa
             let line = |(answer, [one, other]): Told| format!("answer {answer} with {one}, {other}");
             let bytes = if lent == after { "" } else { ", and other bytes" };
             return Err(Difference(format!(
-                "01 or W5 says: {says}\n  asked: {call:?}, panel of {} bytes: {}\n  {side}: {}{bytes}\n  known: {}",
+                "01, W4 or W5 says: {says}\n  asked: {call:?}, panel of {} bytes: {}\n  {side}: {}{bytes}\n  known: {}",
                 panel.len(),
                 hex(panel),
                 line(told),
                 line(known)
             )));
+        }
+    }
+    Ok(())
+}
+
+fn no_leaves(tally: &mut Tally) -> Compared {
+    for (says, panel, nodes, answer, ancestor) in NO_LEAVES {
+        for node in *nodes {
+            for call in [NumberOf(*node), Split(*node), Merge(*node)] {
+                one(says, panel, call, (*answer, [0, *ancestor]), panel)?;
+                tally.known();
+            }
         }
     }
     Ok(())
@@ -144,8 +183,9 @@ fn finer(tally: &mut Tally) -> Compared {
         let fresh = with_right_sums(*depth, &leaf_bits);
         one(says, &vec![0xEE; *length], Open(*depth), alone(0), &fresh)?;
         tally.known();
-        for (call, answer) in [(Judge, 0), (NumberOf(*last), 4), (NumberOf(*last + 1), 3)] {
-            one(says, &fresh, call, alone(answer), &fresh)?;
+        let below = (10, [0, 3]);
+        for (call, known) in [(Judge, alone(0)), (NumberOf(*last), below), (NumberOf(*last + 1), alone(3))] {
+            one(says, &fresh, call, known, &fresh)?;
             tally.known();
         }
     }
@@ -163,5 +203,6 @@ pub fn all(tally: &mut Tally) -> Compared {
             }
         }
     }
+    no_leaves(tally)?;
     finer(tally)
 }

@@ -3,8 +3,9 @@
 //!
 //!     compare [--seed NUMBER] [--cases NUMBER]
 //!
-//! The same seed and number give the same cases. It prints how many cases it compared, by call and answer, how many panels by
-//! depth, and how many known values. Exit status: 0 no difference, and every answer of every call was seen; 1 otherwise; 2 wrong arguments.
+//! The same seed and number give the same cases. It prints how many cases it compared, by call and answer, how often a call told an
+//! ancestor, by how far above the node that is, how many panels by depth, and how many known values. Exit status: 0 no difference, and
+//! every answer of every call and every ancestor's distance was seen; 1 otherwise; 2 wrong arguments.
 
 mod damage;
 mod fields;
@@ -22,7 +23,7 @@ use std::process::ExitCode;
 use random::Random;
 use tally::{Compared, Difference, Tally};
 
-/// The calls that are compared, and the answers that document 01 gives each.
+/// The calls that are compared, and the answers that document 01 and request W4 give each, in the order of testing.
 pub const CALLS: &[(&str, &[u32])] = &[
     ("node_neighbours", &[0, 3]),
     ("node_corners", &[0, 3]),
@@ -30,13 +31,16 @@ pub const CALLS: &[(&str, &[u32])] = &[
     ("panel_judge", &[0, 1, 2]),
     ("panel_count", &[0, 1, 2]),
     ("panel_leaf", &[0, 1, 2, 8]),
-    ("panel_number", &[0, 1, 2, 3, 4]),
+    ("panel_number", &[0, 1, 2, 3, 4, 10]),
     ("panel_leaf_bits", &[0, 1, 2]),
-    ("panel_split", &[0, 1, 2, 3, 4, 5]),
-    ("panel_merge", &[0, 1, 2, 3, 4, 6, 7]),
+    ("panel_split", &[0, 1, 2, 3, 4, 10, 5]),
+    ("panel_merge", &[0, 1, 2, 3, 4, 10, 6, 7]),
     // a run's panel is always good, and no request takes a leaf number
-    ("scanner", &[0, 1, 3, 4, 5, 6, 7, 9]),
+    ("scanner", &[0, 9, 1, 18, 3, 4, 10, 5, 6, 7]),
 ];
+
+/// The calls that tell an ancestor beside 10.
+pub const WITH_ANCESTOR: &[&str] = &["panel_number", "panel_split", "panel_merge"];
 
 /// What every number that a call is to write holds before it, so that one it leaves alone shows.
 pub const JUNK: u32 = 0xA5C3_0F69;

@@ -6,7 +6,7 @@ use second::panel::Panel;
 use second::triangles::{depth, GREATEST_DEPTH, LEAST_DEPTH};
 
 use crate::random::Random;
-use crate::subject::{Asked, Subject};
+use crate::subject::{way_through, Asked, Subject};
 use crate::tally::{Compared, Tally};
 
 /// How many of so many cases are tried at a depth. A panel has twice the bytes of one a depth less; from 14 on half as many cases
@@ -27,16 +27,20 @@ fn all_cut(depth: u32) -> Panel {
     Panel::holding(depth, &(1..1 << depth).collect())
 }
 
-/// A node to change: mostly a leaf, often one of the deepest, at times one beside a leaf or any number.
+/// A node to change: mostly a leaf, often one of the deepest, at times one above a leaf or below it or any number.
 pub fn node(panel: &Panel, random: &mut Random) -> u32 {
     let leaf = random.pick(panel.leaves());
     let other = random.pick(panel.leaves());
     match random.below(16) {
         0 => leaf / 2,
         1 => 2 * leaf,
-        2 => random.below((2 << panel.depth()) + 3) as u32,
-        3 => random.next() as u32,
-        4..=7 => {
+        2 => {
+            let way = way_through(leaf, panel.depth(), random);
+            random.pick(&way)
+        }
+        3 => random.below((2 << panel.depth()) + 3) as u32,
+        4 => random.next() as u32,
+        5..=7 => {
             if depth(leaf) < depth(other) {
                 other
             } else {
@@ -64,6 +68,12 @@ fn run(tally: &mut Tally, random: &mut Random, start: Panel, steps: usize) -> Co
     Ok(())
 }
 
+/// All calls on the nodes above some leaves and below them, at every distance.
+fn ways(tally: &mut Tally, random: &mut Random, panel: Panel) -> Compared {
+    let asked = Asked::ways(panel.depth(), panel.leaves(), random);
+    Subject::made(tally, random, panel).every_call(&asked)
+}
+
 /// Nodes and numbers all over one panel: all calls to depth 9, those that read above.
 fn all_over(tally: &mut Tally, random: &mut Random, panel: Panel) -> Compared {
     let asked = Asked::many(panel.depth(), random);
@@ -80,8 +90,10 @@ pub fn all(tally: &mut Tally, random: &mut Random, cases: usize) -> Compared {
     for depth in LEAST_DEPTH..=GREATEST_DEPTH {
         let steps = if depth <= 10 { 4 * cases } else { bounded(cases, depth) };
         let fresh = Panel::fresh(depth).expect("a depth in range");
+        ways(tally, random, fresh.clone())?;
         run(tally, random, fresh, steps)?;
         let some = random_panel(depth, random);
+        ways(tally, random, some.clone())?;
         run(tally, random, some, steps)?;
         run(tally, random, all_cut(depth), steps)?;
         let some = random_panel(depth, random);

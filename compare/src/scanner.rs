@@ -6,7 +6,7 @@ use std::thread::{self, sleep};
 use std::time::Duration;
 
 use second::panel::Panel;
-use second::requests::{self, records_of_text, MOST_RECORDS, RECORD};
+use second::requests::{self, records_of_text, Run, MOST_RECORDS, RECORD};
 use second::triangles::{GREATEST_DEPTH, LEAST_DEPTH};
 
 use crate::random::Random;
@@ -130,43 +130,74 @@ fn bad(random: &mut Random) -> String {
     format!("bytes {}\n", requests::hex(&record))
 }
 
-/// So many requests: mostly splits and merges of leaves, a few more opens and bad records among them.
-fn some(depth: u32, many: usize, random: &mut Random) -> Vec<u8> {
-    let mut text = String::new();
-    let mut panel: Option<Panel> = None;
-    for step in 0..many {
-        let open = if panel.is_none() { random.once_in(2) } else { random.once_in(100) };
-        let (kind, number) = if open {
-            let depth = if random.once_in(2) { depth } else { any_depth(random) };
-            panel = Panel::fresh(depth).ok().or(panel);
-            ("open", depth)
-        } else {
-            let number = panel.as_ref().map_or(2, |p| node(p, random));
-            let split = random.once_in(4) != (step * 4 / many).is_multiple_of(2);
-            if let Some(panel) = &mut panel {
-                if split { panel.split(number) } else { panel.merge(number) }.ok();
-            }
-            (if split { "split" } else { "merge" }, number)
-        };
-        text += &format!("{kind} {number}\n");
-        if random.once_in(30) {
-            text += &bad(random);
+/// A request file that is being written, and what the second program has made of it so far.
+#[derive(Default)]
+struct Draft {
+    file: Vec<u8>,
+    run: Run,
+}
+
+impl Draft {
+    fn add(&mut self, records: &[u8]) {
+        records.chunks(RECORD).for_each(|record| self.run.take(record));
+        self.file.extend(records);
+    }
+
+    fn ask(&mut self, request: &str, number: u32) {
+        self.add(&records(&format!("{request} {number}")));
+    }
+
+    /// None where no panel is open.
+    fn leaves(&self) -> &[u32] {
+        self.run.panel.as_ref().map_or(&[], Panel::leaves)
+    }
+
+    /// Merges down to two leaves. Of the deepest leaf the sibling and the two across are as deep, so that each merge is allowed.
+    fn merge_back(&mut self) {
+        while self.leaves().len() > 2 {
+            let deepest = self.leaves().iter().copied().max().expect("more than two");
+            self.ask("merge", deepest);
         }
     }
-    records(&text)
+}
+
+/// So many requests: mostly splits and merges of leaves, opens and bad records among them. Over a scan an open is rare, and refused
+/// unless all is merged back before; over two leaves it comes more often.
+fn some(depth: u32, many: usize, random: &mut Random) -> Vec<u8> {
+    let mut draft = Draft::default();
+    for step in 0..many {
+        let rarely = match draft.leaves().len() {
+            0 => 2,
+            2 => 4,
+            _ => 40,
+        };
+        if random.once_in(rarely) {
+            if random.once_in(3) {
+                draft.merge_back();
+            }
+            draft.ask("open", if random.once_in(2) { depth } else { any_depth(random) });
+        } else {
+            let split = random.once_in(4) != (step * 4 / many).is_multiple_of(2);
+            let number = draft.run.panel.as_ref().map_or(2, |p| node(p, random));
+            draft.ask(if split { "split" } else { "merge" }, number);
+        }
+        if random.once_in(30) {
+            draft.add(&records(&bad(random)));
+        }
+    }
+    draft.file
 }
 
 /// An open and so many splits, mostly of leaves just above the greatest depth: few requests, many leaves.
 fn deep(depth: u32, many: usize, random: &mut Random) -> Vec<u8> {
-    let mut text = format!("open {depth}\n");
-    let mut panel = Panel::fresh(depth).expect("a depth in range");
+    let mut draft = Draft::default();
+    draft.ask("open", depth);
     for _ in 0..many {
-        let some = (0..8).map(|_| random.pick(panel.leaves()));
-        let leaf = some.filter(|n| n.ilog2() < depth).max().unwrap_or(panel.leaves()[0]);
-        text += &format!("split {leaf}\n");
-        panel.split(leaf).ok();
+        let some = (0..8).map(|_| random.pick(draft.leaves()));
+        let leaf = some.filter(|n| n.ilog2() < depth).max().unwrap_or(draft.leaves()[0]);
+        draft.ask("split", leaf);
     }
-    records(&text)
+    draft.file
 }
 
 /// An open, splits, and then refused requests, so many that what is printed has exactly so many bytes.
@@ -239,15 +270,40 @@ fn blocks(tally: &mut Tally, random: &mut Random) -> Compared {
     one(tally, random, &file, Whole)
 }
 
-/// The finest panel, the coarsest and the finest again, one after the other in the program's one buffer, and depths beyond.
+/// The finest panel, the coarsest and the finest again in the program's one buffer, between opens that are refused for their depth or
+/// as bad records: each open over the scan before it, where it is refused, and then each after that is merged back.
 fn opens(tally: &mut Tally, random: &mut Random) -> Compared {
-    let finest = deep(GREATEST_DEPTH, 60, random);
+    let finest = deep(GREATEST_DEPTH, 40, random);
     let coarsest = level_by_level(LEAST_DEPTH, 6);
-    let beyond = records("open 18\nopen 19\nopen 49\nopen 4294967295\n");
-    let mut file = Vec::new();
-    for more in [&beyond, &finest, &beyond, &coarsest, &beyond, &finest] {
-        file.extend(more);
-        one(tally, random, &file, Whole)?;
+    let refused =
+        records("open 2\nopen 18\nopen 19\nopen 49\nopen 4294967295\nbytes 00 01 00 00 03 00 00 00\n");
+    for merged_back in [false, true] {
+        let mut draft = Draft::default();
+        for more in [&refused, &finest, &refused, &coarsest, &refused, &finest, &refused] {
+            if merged_back {
+                draft.merge_back();
+            }
+            draft.add(more);
+            one(tally, random, &draft.file, Whole)?;
+        }
+        assert!(draft.file.len() <= MOST_RECORDS * RECORD, "all of it is worked through");
+    }
+    Ok(())
+}
+
+/// Around two leaves, at every depth: an open is done over a fresh panel, refused after its first split, and done at another depth once
+/// that is merged back. Which panel is there shows by its last node, which lies below a leaf, and the next one.
+fn two_leaves(tally: &mut Tally, random: &mut Random) -> Compared {
+    let depths: Vec<u32> = (LEAST_DEPTH..=GREATEST_DEPTH).collect();
+    for depth in &depths {
+        let other = random.pick(&depths);
+        let [ends, other_ends] =
+            [*depth, other].map(|d| format!("split {}\nmerge {}\n", (2 << d) - 1, 2 << d));
+        let fresh = format!("open {depth}\nopen {other}\n{other_ends}open {depth}\n{ends}");
+        let refused =
+            format!("split 2\nopen {other}\nopen 18\nbytes 00 00 00 01 {other:02X} 00 00 00\n{ends}");
+        let anew = format!("merge 7\nopen {other}\n{other_ends}split 3\nopen {depth}\n{other_ends}");
+        one(tally, random, &records(&(fresh + &refused + &anew)), Whole)?;
     }
     Ok(())
 }
@@ -258,6 +314,7 @@ pub fn all(tally: &mut Tally, random: &mut Random, cases: usize) -> Compared {
     parts(tally, random)?;
     blocks(tally, random)?;
     opens(tally, random)?;
+    two_leaves(tally, random)?;
     for depth in LEAST_DEPTH..=GREATEST_DEPTH {
         for case in 0..cases.div_ceil(40) {
             let many = 1 + random.below(400);

@@ -3,10 +3,10 @@
 use std::fmt::Debug;
 
 use jolpibhar::exports;
-use second::calls::{self, told};
+use second::calls::{self, told, told_with_ancestor};
 use second::panel::{depth_of_length, Panel};
 use second::requests::hex;
-use second::triangles::{GREATEST_DEPTH, LAST_NODE};
+use second::triangles::{depth, GREATEST_DEPTH, LAST_NODE};
 use second::Answer;
 
 use crate::frame::Frame;
@@ -31,6 +31,14 @@ pub fn any_depth(random: &mut Random) -> u32 {
     random.below(DEPTHS_END as usize) as u32
 }
 
+/// The nodes on the way from one of the greatest depth up to node 1, through a leaf: that is the ancestor of those before it, and those
+/// after it are cut.
+pub fn way_through(leaf: u32, panel_depth: u32, random: &mut Random) -> Vec<u32> {
+    let levels = panel_depth - depth(leaf);
+    let last = (leaf << levels) + random.below(1 << levels) as u32;
+    (0..=panel_depth).map(|up| last >> up).collect()
+}
+
 impl Asked {
     /// Every node, number and depth in and around range.
     pub fn all(depth: u32) -> Asked {
@@ -53,7 +61,7 @@ impl Asked {
         asked
     }
 
-    /// The ends of each range, and a few between. There may be no leaves.
+    /// The ends of each range, a few between, and the way through a leaf. There may be no leaves.
     pub fn some(depth: u32, leaves: &[u32], random: &mut Random) -> Asked {
         let (end, count) = (2u32 << depth, leaves.len() as u32);
         let mut nodes = vec![0, 1, 2, end - 1, end, random.pick(&FAR)];
@@ -65,8 +73,20 @@ impl Asked {
                 numbers.push(random.below(count as usize) as u32);
             }
         }
+        if count > 0 {
+            nodes.extend(way_through(random.pick(leaves), depth, random));
+        }
         let depths = vec![depth, depth - 1, depth + 1, any_depth(random), random.pick(&FAR)];
         Asked { nodes, numbers, depths }
+    }
+
+    /// The ways through a few leaves.
+    pub fn ways(depth: u32, leaves: &[u32], random: &mut Random) -> Asked {
+        let mut nodes = Vec::new();
+        for _ in 0..8 {
+            nodes.extend(way_through(random.pick(leaves), depth, random));
+        }
+        Asked { nodes, numbers: Vec::new(), depths: Vec::new() }
     }
 }
 
@@ -130,7 +150,19 @@ impl<'a> Subject<'a> {
         }
     }
 
-    /// A call that only reads.
+    /// What the second program reads in the panel.
+    fn by_second<T>(&self, read: impl Fn(&Panel) -> Answer<T>) -> Answer<T> {
+        self.panel.as_ref().map_err(|refusal| *refusal).and_then(read)
+    }
+
+    /// Counts the ancestor of a node that both told, if they did.
+    fn count_ancestor(&mut self, call: &'static str, node: u32, ancestor: u32) {
+        if ancestor != 0 {
+            self.tally.ancestor(call, depth(node) - depth(ancestor));
+        }
+    }
+
+    /// A call that only reads, and tells no ancestor.
     fn reading<T: PartialEq + Debug + Default>(
         &mut self,
         call: &'static str,
@@ -138,7 +170,7 @@ impl<'a> Subject<'a> {
         exports: (u32, T),
         second: impl Fn(&Panel) -> Answer<T>,
     ) -> Compared {
-        let second = told(self.panel.as_ref().map_err(|refusal| *refusal).and_then(second));
+        let second = told(self.by_second(second));
         self.same(call, what, exports, second, None)
     }
 
@@ -165,7 +197,11 @@ impl<'a> Subject<'a> {
 
     pub fn number(&mut self, node: u32) -> Compared {
         let exports = exports::number(self.frame.lent(), node, JUNK);
-        self.reading("panel_number", Some(("node", node)), exports, |p| p.number_of(node))
+        let second = told_with_ancestor(self.by_second(|p| p.number_of(node)));
+        self.same("panel_number", Some(("node", node)), exports, second, None)?;
+        let (_, (_, ancestor)) = second;
+        self.count_ancestor("panel_number", node, ancestor);
+        Ok(())
     }
 
     pub fn open(&mut self, depth: u32) -> Compared {
@@ -182,22 +218,32 @@ impl<'a> Subject<'a> {
         Ok(panel)
     }
 
-    fn changing(&mut self, call: &'static str, node: u32, exports: u32, after: &Answer<Panel>) -> Compared {
-        let second = after.as_ref().err().copied().unwrap_or(0);
+    /// A split or a merge: the answer, the ancestor and the bytes.
+    fn changing(
+        &mut self,
+        call: &'static str,
+        node: u32,
+        exports: (u32, u32),
+        after: &Answer<Panel>,
+    ) -> Compared {
+        let done = after.as_ref().map(|_| ()).map_err(|refusal| *refusal);
+        let (second, ((), ancestor)) = told_with_ancestor(done);
         let bytes = after.as_ref().ok().map(Panel::bytes);
-        self.same(call, Some(("node", node)), (exports, ()), (second, ()), bytes.as_deref())
+        self.same(call, Some(("node", node)), exports, (second, ancestor), bytes.as_deref())?;
+        self.count_ancestor(call, node, ancestor);
+        Ok(())
     }
 
     pub fn split(&mut self, node: u32) -> Result<Answer<Panel>, Difference> {
         let after = self.after(|p| p.split(node));
-        let exports = exports::split(self.frame.lent(), node);
+        let exports = exports::split(self.frame.lent(), node, JUNK);
         self.changing("panel_split", node, exports, &after)?;
         Ok(after)
     }
 
     pub fn merge(&mut self, node: u32) -> Result<Answer<Panel>, Difference> {
         let after = self.after(|p| p.merge(node));
-        let exports = exports::merge(self.frame.lent(), node);
+        let exports = exports::merge(self.frame.lent(), node, JUNK);
         self.changing("panel_merge", node, exports, &after)?;
         Ok(after)
     }

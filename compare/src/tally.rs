@@ -3,7 +3,9 @@
 use std::collections::BTreeMap;
 use std::fmt::Debug;
 
-use crate::CALLS;
+use second::triangles::GREATEST_DEPTH;
+
+use crate::{CALLS, WITH_ANCESTOR};
 
 /// The message that says where the two programs differ.
 pub struct Difference(pub String);
@@ -20,9 +22,31 @@ struct Depth {
 #[derive(Default)]
 pub struct Tally {
     answers: BTreeMap<(&'static str, u32), u64>,
+    distances: BTreeMap<(&'static str, u32), u64>,
     depths: BTreeMap<u32, Depth>,
     other_lengths: u64,
     known: u64,
+}
+
+/// Prints how often a call gave each number; whether it gave all.
+fn print_seen(
+    call: &'static str,
+    what: &str,
+    numbers: &[u32],
+    seen: &BTreeMap<(&'static str, u32), u64>,
+) -> bool {
+    let mut line = format!("{call:<16}{what}");
+    let mut complete = true;
+    for number in numbers {
+        let seen = seen.get(&(call, *number)).copied().unwrap_or(0);
+        line += &format!("  {number}: {seen}");
+        if seen == 0 {
+            line += " NEVER SEEN";
+            complete = false;
+        }
+    }
+    println!("{line}");
+    complete
 }
 
 impl Tally {
@@ -52,6 +76,11 @@ impl Tally {
         *self.answers.entry((call, answer)).or_default() += 1;
     }
 
+    /// Counts an ancestor that both told, so many levels above the node.
+    pub fn ancestor(&mut self, call: &'static str, levels: u32) {
+        *self.distances.entry((call, levels)).or_default() += 1;
+    }
+
     /// Counts a known value that both gave.
     pub fn known(&mut self) {
         self.known += 1;
@@ -70,20 +99,16 @@ impl Tally {
         }
     }
 
-    /// Prints the cases by call and answer; whether every answer that a call has was seen.
+    /// Prints the cases by call and answer; whether every answer that a call has was seen, and an ancestor at every distance.
     pub fn print(&self) -> bool {
         let mut complete = true;
         for (call, answers) in CALLS {
-            let mut line = format!("{call:<16}");
-            for answer in *answers {
-                let seen = self.answers.get(&(call, *answer)).copied().unwrap_or(0);
-                line += &format!("  {answer}: {seen}");
-                if seen == 0 {
-                    line += " NEVER SEEN";
-                    complete = false;
-                }
-            }
-            println!("{line}");
+            complete &= print_seen(call, "", answers, &self.answers);
+        }
+        // from a leaf of depth 1 to a node of the greatest depth
+        let levels: Vec<u32> = (1..GREATEST_DEPTH).collect();
+        for call in WITH_ANCESTOR {
+            complete &= print_seen(call, "  ancestor, levels above", &levels, &self.distances);
         }
         for (depth, row) in &self.depths {
             println!(
