@@ -4,10 +4,9 @@ use mathlib.Core.Path.{_≡_, sym, ap, ap₂, _∙_, subst, subst⁻¹}
 use mathlib.Core.List.{List}
 use mathlib.Core.Bool.{Bool}
 use Prim.Native.Nat.{ℕ, _+_, _-_, _*_, _/_, _%_, _^_, _≤_, _<_}
-use native.Mathlib.Nat.{div-div-eq-div-mul, div-le-self}
 use native.Mathlib.Decide.{decLe, decLt}
 use native.Mathlib.Omega.{arith}
-use lib.Pow.{pow-add}
+use lib.Pow.{shr-shr, shr-le}
 use Rattle.nodes.specs.Depth.{depthOf}
 use Rattle.tables.specs.inner.Says.{Says}
 use Rattle.nodes.proofs.Depths.{At, at-below, at-depth, depth-le, ancestor, at-ancestor}
@@ -26,15 +25,14 @@ use Rattle.descents.proofs.Downward.{root-spot}
 -- on the way up from n, the node j levels up is that many above the one i levels up
 higher : (n i j : ℕ) {x y : ℕ} → i ≤ j → n / 2 ^ i ≡ x → n / 2 ^ j ≡ y → x / 2 ^ (j - i) ≡ y
 higher n i j h e f =
-    ap (λ z. z / 2 ^ (j - i)) (sym e) ∙ div-div-eq-div-mul n (2 ^ i) (2 ^ (j - i))
-    ∙ ap (λ z. n / z) (sym (pow-add 2 i (j - i)) ∙ ap (λ (z : ℕ). 2 ^ z) (let g : i + (j - i) ≡ j = omega arith in g)) ∙ f
+    ap (λ z. z / 2 ^ (j - i)) (sym e) ∙ shr-shr n i (j - i) ∙ ap (λ z. n / 2 ^ z) (let g : i + (j - i) ≡ j = omega arith in g) ∙ f
 
 -- so the one with the lesser number is the higher one
 higher-lt : (n i j : ℕ) {x y : ℕ} → n / 2 ^ i ≡ x → n / 2 ^ j ≡ y → y < x → i < j
 higher-lt n i j {x} {y} e f h = go (decLe j i)
   where
     go : Dec (j ≤ i) → i < j
-    go (yes l) = absurd (omega (arith, higher n j i l f e, div-le-self y (2 ^ (i - j))))
+    go (yes l) = absurd (omega (arith, higher n j i l f e, shr-le y (i - j)))
     go (no l) = omega arith
 
 module _ (s : List ℕ) (G : Good s) (k : ℕ) (R : InRange s k) where
