@@ -10,7 +10,7 @@ use denote.Laws.{Is}
 use denote.Shadow.{shadow}
 use denote.Plain.{UInt}
 use denote.Array.{Array, each}
-use Rattle.triangles.specs.Corners.{Point, Triangle, px, py, point, triangle}
+use Rattle.triangles.specs.Corners.{Point, Triangle, cornerA, cornerB, cornerC, px, py, point, triangle}
 
 two-whole : (p : Point) → length p ≡ 2 → point (px p) (py p) ≡ p
 two-whole [] e = absurd (omega arith)
@@ -28,5 +28,22 @@ point-whole w n t vs p i h = go t (p .0) (p .1 .1) i (subst (λ m. i < m) (sym (
     go (x ∷ t) (u ∷ us) e zero l = two-whole x (e .0 .1 .0 .1)
     go (x ∷ t) (u ∷ us) e (suc i) l = go t us (e .1) i (omega arith)
 
+three-whole : (t : Triangle) → length t ≡ 3 → triangle (cornerA t) (cornerB t) (cornerC t) ≡ t
+three-whole [] e = absurd (omega arith)
+three-whole (a ∷ []) e = absurd (omega arith)
+three-whole (a ∷ b ∷ []) e = absurd (omega arith)
+three-whole (a ∷ b ∷ c ∷ []) e = refl
+three-whole (a ∷ b ∷ c ∷ d ∷ t) e = absurd (omega arith)
+
 pub triangle-same : {a b c a' b' c' : Point} → a ≡ a' → b ≡ b' → c ≡ c' → triangle a b c ≡ triangle a' b' c'
 triangle-same {b = b} {c = c} {a' = a'} {b' = b'} p q r = ap (λ x. triangle x b c) p ∙ ap (λ x. triangle a' x c) q ∙ ap (triangle a' b') r
+
+-- the triangle that its six numbers tell
+abbrev pub told : Triangle → Triangle
+told t =
+    triangle (point (px (cornerA t)) (py (cornerA t))) (point (px (cornerB t)) (py (cornerB t))) (point (px (cornerC t)) (py (cornerC t)))
+
+pub told-whole : (w : Width) (t : Triangle) (vs : List Val) → Is (Array (Array (UInt w) 2) 3) t vs → told t ≡ t
+told-whole w t vs p =
+    let q = point-whole w 3 t vs p in
+    triangle-same (q 0 (omega arith)) (q 1 (omega arith)) (q 2 (omega arith)) ∙ three-whole t (p .1 .0 .1)
