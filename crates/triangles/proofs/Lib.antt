@@ -3,5 +3,7 @@ pub mod Arrays
 pub mod Borders
 pub mod CornerDescents
 pub mod Cornering
+pub mod LongSides
 pub mod Midpoints
 pub mod Sides
+pub mod Turning

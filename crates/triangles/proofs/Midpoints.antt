@@ -96,11 +96,11 @@ grid-three : Grid 16 (cornersOf 3)
 unfolding cornersOf cornersAt depthOf depthIn
 grid-three = record { gax = multiple-at 1 8 256 refl; gay = multiple-at 0 8 0 refl; gbx = multiple-at 1 8 256 refl; gby = multiple-at 1 8 256 refl; gcx = multiple-at 0 8 0 refl; gcy = multiple-at 1 8 256 refl }
 
-depth-two : depthOf 2 ≡ 1
+pub depth-two : depthOf 2 ≡ 1
 unfolding depthOf depthIn
 depth-two = refl
 
-depth-three : depthOf 3 ≡ 1
+pub depth-three : depthOf 3 ≡ 1
 unfolding depthOf depthIn
 depth-three = refl
 

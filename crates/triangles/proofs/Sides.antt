@@ -26,7 +26,7 @@ record Shared (n : ℕ) : Type 0 where
   pub by-left : 1 ≤ neighboursOf n .left → Beside (cornersOf (neighboursOf n .left)) (cornersOf n)
   pub by-right : 1 ≤ neighboursOf n .right → Beside (cornersOf n) (cornersOf (neighboursOf n .right))
 
-mid-comm : (a c : Point) → midpoint a c ≡ midpoint c a
+pub mid-comm : (a c : Point) → midpoint a c ≡ midpoint c a
 mid-comm a c = rw (add-comm (px a) (px c), add-comm (py a) (py c))
 
 mid-across : (s t : Triangle) → Across s t → midpoint (cornerA s) (cornerC s) ≡ midpoint (cornerA t) (cornerC t)

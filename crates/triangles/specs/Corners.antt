@@ -80,12 +80,17 @@ cornersAt (suc (suc d)) n = childTriangle (n % 2) (cornersAt (suc d) (n / 2))
 unfoldable pub cornersOf : ℕ → Triangle
 cornersOf n = cornersAt (depthOf n) n
 
+-- as the corners of a node go out (02, W6): at even depth, the last digit of which is 0, A and C change places
+abbrev pub turned : ℕ → Triangle → Triangle
+turned zero t = triangle (cornerC t) (cornerB t) (cornerA t)
+turned (suc b) t = t
+
 -- two points lie on one line of the panel border
 unfoldable pub OnBorder : Point → Point → Type 0
 OnBorder p q =
     ((px p ≡ 0) × (px q ≡ 0)) ⊎ (((px p ≡ 256) × (px q ≡ 256)) ⊎ (((py p ≡ 0) × (py q ≡ 0)) ⊎ ((py p ≡ 256) × (py q ≡ 256))))
 
--- the products that twice a triangle's area adds, and those that it takes away, with the corners in one sense of turning
+-- the products that twice a triangle's area adds, and those that it takes away, where A, B, C turn counterclockwise with y upward
 abbrev pub plus : Triangle → ℕ
 plus t = px (cornerA t) * py (cornerB t) + px (cornerB t) * py (cornerC t) + px (cornerC t) * py (cornerA t)
 
