@@ -5,27 +5,29 @@ use mathlib.Core.Path.{_≡_, refl, sym, ap, ap₂, _∙_}
 use mathlib.Core.Logic.{_≢_, _⊎_, _↔_}
 use mathlib.Core.Bool.{Bool, true}
 use mathlib.Core.List.{List, [], _∷_, _++_}
-use Prim.Native.Nat.{ℕ, zero, suc, _+_, _-_, _*_, _/_, _^_, _≤_, _<_, min}
+use Prim.Native.Nat.{ℕ, zero, suc, _+_, _-_, _*_, _/_, _%_, _^_, _≤_, _<_, min}
 use native.Mathlib.Omega.{arith}
 use lib.ListN.{length}
+use lib.Pow.{pow-pos}
 use Rattle.bits.specs.Bits.{Bytes}
 use Rattle.nodes.specs.declared.triples.Triple.{Triple}
 use Rattle.nodes.specs.Depth.{depthOf}
 use Rattle.nodes.specs.Limits.{KnownNode}
 use Rattle.nodes.specs.Neighbours.{none, neighboursOf, edge}
-use Rattle.triangles.specs.Corners.{Triangle, InPanel, Exact, cornersOf, twiceArea}
+use Rattle.triangles.specs.Corners.{Point, Triangle, InPanel, Exact, cornersOf, turned, plus, minus, twiceArea}
 use Rattle.tables.specs.Table.{Row, unless, Outcome}
 use Rattle.node_calls.specs.Calls.{nodeRows, Neighbours, noCorners, Corners}
-use Rattle.nodes.proofs.Depths.{depth-le}
 use Rattle.nodes.proofs.Edges.{edge-depth, edge-mutual}
 use Rattle.nodes.proofs.Limits.{known-shallow}
 use Rattle.nodes.proofs.Neighbouring.{left-depth, right-depth, left-right}
 use Rattle.triangles.proofs.Sides.{Across, Beside, edge-across, left-beside}
 use Rattle.triangles.proofs.Borders.{Border, border}
 use Rattle.triangles.proofs.Cornering.{in-panel}
-use Rattle.triangles.proofs.Areas.{area-is}
+use Rattle.triangles.proofs.Areas.{area-is, outward-area}
+use Rattle.triangles.proofs.LongSides.{LongSide, long-side}
 use Rattle.triangles.proofs.Midpoints.{whole-corners}
-use Rattle.node_calls.proofs.Outcomes.{neighbours-one, corners-one}
+use Rattle.triangles.proofs.Turning.{CornerOf, same-corners, turned-back}
+use Rattle.node_calls.proofs.Outcomes.{done-known, neighbours-one, corners-one}
 use Rattle.sums.specs.Rank.{rank}
 use Rattle.words.specs.Words.{word, leafBit}
 use Rattle.sums.proofs.Counts.{word-all}
@@ -33,8 +35,7 @@ use Rattle.cuts.specs.Cuts.{CoverOnce}
 use Rattle.cuts.proofs.Areas.{total}
 use Rattle.panel.specs.Panels.{sizeOf, Fits, deepOf, CutOf, Good, InRange, LeafOf, leafCount}
 use Rattle.panel.specs.Calls.{panelRows, leafRows, Judged, Count, LeafBits, LeafAt, Ancestor, NumberOf, Open, SplitAt, Split, Together, MergeAt, Merge}
-use Rattle.panel.proofs.Lengths.{fits-small}
-use Rattle.panel.proofs.GoodPanels.{leaf-in-range, leaf-areas}
+use Rattle.panel.proofs.GoodPanels.{leaf-areas}
 use Rattle.panel.proofs.SameBytes.{bytes-same}
 use Rattle.panel.proofs.Once.{judge-one, count-one, leaf-bits-one, leaf-at-one, ancestor-one, number-of-one, open-one, split-one, merge-one}
 use Rattle.records.specs.Records.{kind, number, Fine, recordAt, mostRecords}
@@ -162,7 +163,8 @@ pub record Read (s : List ℕ) : Type 0 where
   pub areas : (leaf : ℕ → ℕ) (corners : ℕ → Triangle) → ((i : ℕ) → i < leafCount s → LeafAt s i 0 (leaf i) × Corners (leaf i) 0 (corners i))
       → total (λ i. twiceArea (corners i)) (leafCount s) ≡ 131072
 
--- what holds of a node's neighbours and corners: by their outcomes these are what the calls hand out. A neighbour that is a node has the same depth
+-- what holds of a node's neighbours, which by their outcome the call hands out, and of its corners in the order of the matrices. A neighbour that is
+-- a node has the same depth
 pub record Placed (n : ℕ) : Type 0 where
   pub left-level : neighboursOf n .left ≢ 0 → depthOf (neighboursOf n .left) ≡ depthOf n
   pub right-level : neighboursOf n .right ≢ 0 → depthOf (neighboursOf n .right) ≡ depthOf n
@@ -177,9 +179,21 @@ pub record Placed (n : ℕ) : Type 0 where
   -- its corners are whole numbers
   pub whole : 2 ≤ n / 2 → Exact (cornersOf (n / 2))
 
+-- what holds of the corners t that are handed out of node n
+pub record HandedOut (n : ℕ) (t : Triangle) : Type 0 where
+  -- they turn counterclockwise with y upward, and twice their area has that sign
+  pub turns : minus t < plus t
+  pub area : plus t ≡ minus t + 2 ^ (17 - depthOf n)
+  -- they are the three points that the matrices give, and the long side goes from the first to the last
+  pub same : (p : Point) → CornerOf t p ↔ CornerOf (cornersOf n) p
+  pub long : LongSide t
+  -- turned once more, they are in the order of the matrices, to which the rules on neighbours keep
+  pub back : turned (depthOf n % 2) t ≡ cornersOf n
+
 pub record Demand2 : Type 0 where
   pub panel : (s : List ℕ) → Good s → Read s
   pub node : (n : ℕ) → KnownNode n → Placed n
+  pub corners : (n : ℕ) (t : Triangle) → Corners n 0 t → HandedOut n t
   pub cases : Every knownCases
 
 total-same : (f g : ℕ → ℕ) (c : ℕ) → ((i : ℕ) → i < c → f i ≡ g i) → total f c ≡ total g c
@@ -187,10 +201,21 @@ unfolding total
 total-same f g zero e = refl
 total-same f g (suc c) e = ap₂ (λ x y. x + y) (total-same f g c (λ i h. e i (omega arith))) (e c (omega arith))
 
-leaf-area : (s : List ℕ) → Good s → (i k : ℕ) (t : Triangle) → LeafAt s i 0 k → Corners k 0 t → twiceArea t ≡ 2 ^ (17 - depthOf k)
-leaf-area s G i k t a c =
-    let l = a .done refl .leaf in
-    ap twiceArea (c .done refl .corners) ∙ area-is k (l .low) (omega (arith, fits-small (G .fits), depth-le k (deepOf s) (leaf-in-range s G k l .high)))
+handed-out : (n : ℕ) (t : Triangle) → Corners n 0 t → HandedOut n t
+handed-out n t c =
+    let k = done-known n (c .answer) in
+    let a = outward-area n (k .low) (known-shallow k) in
+    rw (c .done refl .corners) (record {
+      turns = omega (arith, pow-pos (17 - depthOf n));
+      area = a;
+      same = same-corners (depthOf n % 2) (cornersOf n);
+      long = long-side n (k .low) (known-shallow k);
+      back = turned-back n (k .low) (depthOf n % 2);
+    })
+
+corner-area : (n : ℕ) (t : Triangle) → Corners n 0 t → twiceArea t ≡ 2 ^ (17 - depthOf n)
+unfolding twiceArea
+corner-area n t c = omega (arith, handed-out n t c .area)
 
 panel-read : (s : List ℕ) → Good s → Read s
 panel-read s G = record {
@@ -201,7 +226,7 @@ panel-read s G = record {
   same = λ t T e. bytes-same G T (G .fits .long ∙ ap sizeOf e ∙ sym (T .fits .long));
   areas = λ leaf corners L.
       total-same (λ i. twiceArea (corners i)) (λ i. 2 ^ (17 - depthOf (leaf i))) (leafCount s)
-      (λ i h. leaf-area s G i (leaf i) (corners i) (L i h .0) (L i h .1))
+      (λ i h. corner-area (leaf i) (corners i) (L i h .1))
       ∙ leaf-areas s G leaf (λ i h. L i h .0 .done refl);
 }
 
@@ -222,7 +247,7 @@ node-placed n k =
     }
 
 pub demand-2 : Demand2
-demand-2 = record { panel = panel-read; node = node-placed; cases = known }
+demand-2 = record { panel = panel-read; node = node-placed; corners = handed-out; cases = known }
 
 -- ---- demand 3: any sequence of calls keeps covering and the long side rule; splits are smallest and bounded, merges exact
 

@@ -12,6 +12,7 @@ use Rattle.nodes.specs.Depth.{depthOf, depthIn}
 use Rattle.nodes.specs.Limits.{greatestDepth, KnownNode}
 use Rattle.nodes.specs.Neighbours.{neighboursOf, neighboursAt}
 use Rattle.triangles.specs.Corners.{cornersOf, cornersAt}
+use Rattle.triangles.proofs.Turning.{outward}
 use Rattle.node_calls.proofs.Outcomes.{known-node, known-corners}
 use Rattle.tables.proofs.Tables.{is-done}
 use Rattle.sums.specs.Rank.{rank}
@@ -47,7 +48,7 @@ test (merges s k n t ks) = changed (mergeRows s k) (mergeTests s k) (mergeIn s k
 test (refused s k n a) = refusedIn s k n a
 test (neighbours n l r e) =
     knownNode n && eqb l (neighboursOf n .left) && eqb r (neighboursOf n .right) && eqb e (neighboursOf n .edge)
-test (corners n t) = knownNode n && sameList (sameList eqb) t (cornersOf n)
+test (corners n t) = knownNode n && sameList (sameList eqb) t (outward n)
 
 sound : (c : Case) → So (test c) → Holds c
 unfolding test
@@ -62,7 +63,7 @@ sound (neighbours n l r e) z =
     let (((a, p), q), o) = (is-known n and eqb-true l (neighboursOf n .left) and eqb-true r (neighboursOf n .right) and eqb-true e (neighboursOf n .edge)) z in
     known-node a (λ i. record { left = p i; right = q i; edge = o i })
 sound (corners n t) e =
-    let (a, p) = (is-known n and same-list (same-list eqb-true) t (cornersOf n)) e in known-node a (known-corners a p)
+    let (a, p) = (is-known n and same-list (same-list eqb-true) t (outward n)) e in known-node a (known-corners a p)
 
 -- ---- all cases
 

@@ -1,4 +1,4 @@
--- The cases of "Known panels" that are marked [M], and some of 02, W4: requests and what is expected of them, as data, and what it is for a case to hold.
+-- The cases of "Known panels" that are marked [M], and some of 02, W4 and W6: requests and what is expected of them, as data, and what it is for a case to hold.
 use mathlib.Core.Path.{_≡_}
 use mathlib.Core.List.{List, [], _∷_}
 use Prim.Native.Nat.{ℕ, suc}
@@ -99,4 +99,5 @@ knownCases =
     ∷ neighbours 10 11 0 9
     ∷ neighbours 17 30 16 18
     ∷ corners 10 (triangle (point 0 0) (point 128 0) (point 128 128))
+    ∷ corners 4 (triangle (point 0 0) (point 128 128) (point 0 256))
     ∷ []

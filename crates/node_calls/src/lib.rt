@@ -5,7 +5,7 @@ use nodes::Node;
 ghost use Rattle.answers.specs.Refusals.{aroundNumber, aroundTriple};
 ghost use Rattle.node_calls.specs.Calls.{Neighbours, Corners};
 
-// The corners of n, and into `answer` the answer's number; refused below 2 and above the greatest node.
+// The corners of n, counterclockwise with y upward, and into `answer` the answer's number; refused below 2 and above the greatest node.
 pub fn corners(n: Node, answer: &mut u32) -> [[u32; 2]; 3]
     ensures { λ r. ⌜ Corners (n .0) (now (answer .exit)) r ⌝ }
 {
@@ -15,7 +15,7 @@ pub fn corners(n: Node, answer: &mut u32) -> [[u32; 2]; 3]
         return [[0, 0], [0, 0], [0, 0]];
     }
     *answer = 0;
-    triangles::corners_of(n)
+    triangles::turned_corners(n)
 }
 
 // The neighbours of n; refused below 2 and above the greatest node.

@@ -2,7 +2,8 @@
 use nodes::Node;
 ghost use mathlib.Core.Path.{_≡_};
 ghost use Prim.Native.Nat.{_+_, _/_, _%_, _≤_};
-ghost use Rattle.triangles.specs.Corners.{InPanel, firstTriangle, leftTriangle, rightTriangle, cornersOf};
+ghost use Rattle.nodes.specs.Depth.{depthOf};
+ghost use Rattle.triangles.specs.Corners.{InPanel, firstTriangle, leftTriangle, rightTriangle, cornersOf, turned};
 
 // The middle between two coordinates.
 fn middle(a: u32, c: u32) -> u32
@@ -61,4 +62,16 @@ pub fn corners_of(n: Node) -> [[u32; 2]; 3]
         }
     }
     t
+}
+
+// The corners of n as they go out: at even depth A and C change places. Each way has its own descent, so that the exchange costs nothing.
+pub fn turned_corners(n: Node) -> [[u32; 2]; 3]
+    requires { ⌜ 2 ≤ n .0 ⌝ }
+    ensures { λ r. ⌜ r ≡ turned (depthOf (n .0) % 2) (cornersOf (n .0)) ⌝ }
+{
+    if nodes::depth(n) % 2 == 0 {
+        let t = corners_of(n);
+        return [[t[2][0], t[2][1]], [t[1][0], t[1][1]], [t[0][0], t[0][1]]];
+    }
+    corners_of(n)
 }
