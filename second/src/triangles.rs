@@ -1,7 +1,7 @@
 //! Depth, corners and neighbours of a node: what takes no panel.
 //!
-//! Corners come from the product of the child matrices along the node's path. A neighbour is found by
-//! looking which other triangle of the same depth has the same side.
+//! Corners come from the product of the child matrices along the node's path, and go out in the order that turns
+//! counterclockwise. A neighbour is found by looking which other triangle of the same depth has the same side.
 
 use std::collections::HashMap;
 use std::sync::OnceLock;
@@ -141,7 +141,18 @@ pub fn neighbours(node: u32) -> Answer<Neighbours> {
     known(node).map(neighbours_of)
 }
 
+/// "Corners must turn counterclockwise with y upward": where they turn the other way, A and C change places.
+fn counterclockwise([a, b, c]: Triangle) -> Triangle {
+    let to = |p: Point| [0, 1].map(|axis| i64::from(p[axis]) - i64::from(b[axis]));
+    let (back, on) = (to(a), to(c));
+    if on[0] * back[1] > on[1] * back[0] {
+        [a, b, c]
+    } else {
+        [c, b, a]
+    }
+}
+
 /// The corners of a node from 2 to the last, or 3.
 pub fn corners(node: u32) -> Answer<Triangle> {
-    known(node).map(triangle)
+    known(node).map(triangle).map(counterclockwise)
 }

@@ -1,5 +1,5 @@
-//! The values that document 01 gives, with the limits of request W5 and the refusals of W4, and its laws where they can be tried on every
-//! node. Those of its known panels that it does not mark `[M]` are in compare/src/known.rs, which asks both programs.
+//! The values that document 01 gives, with the limits of request W5, the refusals of W4 and the corners of W6, and its laws where they can be
+//! tried on every node. Those of its known panels that it does not mark `[M]` are in compare/src/known.rs, which asks both programs.
 
 use std::collections::BTreeSet;
 
@@ -195,15 +195,43 @@ fn shared_sides_follow_the_rules() {
 fn known_corners() {
     assert_eq!(corners(2), (0, [[0, 256], [0, 0], [256, 0]]));
     assert_eq!(corners(3), (0, [[256, 0], [256, 256], [0, 256]]));
+    assert_eq!(corners(4), (0, [[0, 0], [128, 128], [0, 256]]));
     assert_eq!(corners(10), (0, [[0, 0], [128, 0], [128, 128]]));
 }
 
 #[test]
-fn areas() {
+fn areas_with_their_sign() {
     for node in 2..=LAST_NODE {
         let [a, b, c] = corners(node).1.map(|p| p.map(i64::from));
         let twice = (b[0] - a[0]) * (c[1] - a[1]) - (c[0] - a[0]) * (b[1] - a[1]);
-        assert_eq!(twice.abs(), 1 << (17 - depth(node)));
+        assert_eq!(twice, 1 << (17 - depth(node)));
+    }
+}
+
+#[test]
+fn first_and_last_are_the_ends_of_the_long_side() {
+    for node in 2..=LAST_NODE {
+        let [a, b, c] = corners(node).1.map(|p| p.map(i64::from));
+        let square = |p: [i64; 2], q: [i64; 2]| (p[0] - q[0]).pow(2) + (p[1] - q[1]).pow(2);
+        assert!(square(a, b) < square(a, c) && square(b, c) < square(a, c), "node {node}");
+    }
+}
+
+#[test]
+fn at_even_depth_a_and_c_change_places() {
+    let by_matrices = |node: u32| {
+        let [a, b, c] = corners(node).1;
+        if depth(node) % 2 == 0 {
+            [c, b, a]
+        } else {
+            [a, b, c]
+        }
+    };
+    for node in 2..1 << GREATEST_DEPTH {
+        let [a, b, c] = by_matrices(node);
+        let m = [(a[0] + c[0]) / 2, (a[1] + c[1]) / 2];
+        assert_eq!(by_matrices(2 * node), [a, m, b]);
+        assert_eq!(by_matrices(2 * node + 1), [b, m, c]);
     }
 }
 
