@@ -1,11 +1,12 @@
-//! The values of document 01's section "Known panels" that it does not mark `[M]`, in its order, the limits of request W5, and what
-//! request W4 says on 01's panels of depth 3. Each is asked of the second program and of the exported calls, and both must answer what
-//! stands here: the two agreeing is not enough.
+//! The values of document 01's section "Known panels" that it does not mark `[M]`, in its order, the limits of request W5, what
+//! request W4 says on 01's panels of depth 3, and the corners that 01 and W6 give. Each is asked of the second program and of the
+//! exported calls, and both must answer what stands here: the two agreeing is not enough.
 
 use jolpibhar::exports;
 use second::calls;
 use second::panel::with_right_sums;
 use second::requests::hex;
+use second::triangles::Triangle;
 
 use crate::tally::{Compared, Difference, Tally};
 use crate::JUNK;
@@ -94,6 +95,14 @@ const NO_LEAVES: &[NoLeaves] = &[
 const FINER: &[(&str, u32, usize, u32)] = &[
     ("length 16,384 is now good for D = 15", 15, 16_384, 65_535),
     ("D up to 17, a panel of 65,536 bytes; nodes go to 262,143", 17, 65_536, 262_143),
+];
+
+/// What 01 and W6 say of corners.
+const CORNERS: &[(&str, u32, Triangle)] = &[
+    ("node 2 is A(0,256), B(0,0), C(256,0)", 2, [[0, 256], [0, 0], [256, 0]]),
+    ("node 3 is A(256,0), B(256,256), C(0,256)", 3, [[256, 0], [256, 256], [0, 256]]),
+    ("node 4 is now (0,0), (128,128), (0,256)", 4, [[0, 0], [128, 128], [0, 256]]),
+    ("corners of 10: (0,0), (128,0), (128,128)", 10, [[0, 0], [128, 0], [128, 128]]),
 ];
 
 fn alone(answer: u32) -> Told {
@@ -192,6 +201,18 @@ fn finer(tally: &mut Tally) -> Compared {
     Ok(())
 }
 
+fn corners(tally: &mut Tally) -> Compared {
+    for (says, node, known) in CORNERS {
+        for (side, told) in [("second", calls::corners(*node)), ("exports", exports::corners(*node, JUNK))] {
+            if told != (0, *known) {
+                return Err(Difference(format!("01 or W6 says: {says}\n  {side}: {told:?}")));
+            }
+        }
+        tally.known();
+    }
+    Ok(())
+}
+
 pub fn all(tally: &mut Tally) -> Compared {
     let leaf_bits: Vec<bool> = (0..8).map(|place| place < 2).collect();
     assert_eq!(with_right_sums(3, &leaf_bits), LEAF_BITS);
@@ -204,5 +225,6 @@ pub fn all(tally: &mut Tally) -> Compared {
         }
     }
     no_leaves(tally)?;
-    finer(tally)
+    finer(tally)?;
+    corners(tally)
 }
