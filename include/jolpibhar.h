@@ -23,9 +23,9 @@
 #include <stdint.h>
 
 #define JOLPIBHAR_VERSION_MAJOR 0
-#define JOLPIBHAR_VERSION_MINOR 4
+#define JOLPIBHAR_VERSION_MINOR 5
 #define JOLPIBHAR_VERSION_PATCH 0
-#define JOLPIBHAR_VERSION "0.4.0"
+#define JOLPIBHAR_VERSION "0.5.0"
 
 /* The depth of the finest panel; the coarsest is of depth 3. */
 #define PANEL_GREATEST_DEPTH 17
@@ -55,10 +55,12 @@ enum {
 
 /* ---- calls that take no panel: nodes from 2 to 262,143 */
 
-/* The neighbours of a node at its own depth; 0 is none. Answers 0, 3. */
+/* The neighbours of a node at its own depth; 0 is none. `edge` lies across the long side A-C of node_corners; `left` lies across B-C
+ * at odd depth and across A-B at even depth, `right` across the other of the two. Answers 0, 3. */
 uint32_t node_neighbours(uint32_t node, uint32_t *left, uint32_t *right, uint32_t *edge);
 
-/* The corners A, B, C of a node's triangle in a panel from (0,0) to (256,256); its long side is A-C. Answers 0, 3. */
+/* The corners A, B, C of a node's triangle in a panel from (0,0) to (256,256). They turn counterclockwise with y upward, at every depth. B is the
+ * corner across from the long side, which goes from the first point, A, to the last, C. Answers 0, 3. */
 uint32_t node_corners(uint32_t node, uint32_t *ax, uint32_t *ay, uint32_t *bx, uint32_t *by, uint32_t *cx, uint32_t *cy);
 
 /* ---- calls that read a panel */

@@ -30,7 +30,7 @@
 //!
 //! let around = Node(8).neighbours()?; // at its own depth, whether they are leaves or not
 //! assert_eq!((around.left, around.right, around.edge), (Some(Node(9)), None, Some(Node(15))));
-//! assert_eq!(Node(10).corners()?, [[0, 0], [128, 0], [128, 128]]);
+//! assert_eq!(Node(10).corners()?, [[0, 0], [128, 0], [128, 128]]); // counterclockwise, and the long side is from first to last
 //! # Ok::<(), Refusal>(())
 //! ```
 //!
@@ -53,12 +53,13 @@ pub struct Node(pub u32);
 #[derive(Clone, Copy, Debug, PartialEq, Eq, PartialOrd, Ord, Hash)]
 pub struct LeafNumber(pub u32);
 
-/// The nodes of the same depth beside one: each on one of its sides, or none where that side is the panel's border.
+/// The nodes of the same depth beside one: each on one of its sides, or none where that side is the panel's border. A, B, C are the corners in
+/// the order of [`Node::corners`].
 #[derive(Clone, Copy, Debug, PartialEq, Eq, Hash)]
 pub struct Neighbours {
-    /// Across the side B–C.
+    /// Across the side B–C at odd depth, and across A–B at even depth.
     pub left: Option<Node>,
-    /// Across the side A–B.
+    /// Across the side A–B at odd depth, and across B–C at even depth.
     pub right: Option<Node>,
     /// Across the long side, A–C.
     pub edge: Option<Node>,
@@ -72,8 +73,8 @@ impl Node {
         done(answer, Neighbours { left, right, edge })
     }
 
-    /// The corners A, B, C of the node's triangle, each x and y, in a panel from (0,0) to (256,256). Its long side is A–C.
-    /// Refused: 3.
+    /// The corners A, B, C of the node's triangle, each x and y, in a panel from (0,0) to (256,256). They turn counterclockwise with y
+    /// upward, at every depth. B is the corner across from the long side, which goes from the first point, A, to the last, C. Refused: 3.
     pub fn corners(self) -> Result<[[u32; 2]; 3], Refusal> {
         let (answer, corners) = exports::corners(self.0, 0);
         done(answer, corners)

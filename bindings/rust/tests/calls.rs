@@ -71,6 +71,24 @@ fn nodes_to_262_143() {
 }
 
 #[test]
+fn corners_and_the_sides_of_neighbours() {
+    assert_eq!(Node(4).corners(), Ok([[0, 0], [128, 128], [0, 256]]));
+    let on_border = |[p, q]: [[u32; 2]; 2]| (0..2).any(|axis| p[axis] == q[axis] && p[axis] % 256 == 0);
+    for node in (2..1 << 13).map(Node) {
+        let [a, b, c] = node.corners().unwrap();
+        let (before, after) = if node.0.ilog2() % 2 == 0 { ([b, c], [a, b]) } else { ([a, b], [b, c]) };
+        let Neighbours { left, right, edge } = node.neighbours().unwrap();
+        for (other, side) in [(left, after), (right, before), (edge, [a, c])] {
+            let meets = match other {
+                Some(other) => side.iter().all(|end| other.corners().unwrap().contains(end)),
+                None => on_border(side),
+            };
+            assert!(meets, "{node:?} and {other:?}");
+        }
+    }
+}
+
+#[test]
 fn numbers_of_refusals() {
     for number in (1..=9).chain([18]) {
         let alone = Refusal::of_answer(number, 0).unwrap();
