@@ -84,7 +84,8 @@ struct triangle {
     uint32_t at[3][2];
 };
 
-/* Algorithm 5 with each matrix of formula 3 applied to the corners at once. */
+/* Algorithm 5 with each matrix of formula 3 applied to the corners at once. They go out counterclockwise: at even depth the matrices give
+ * them clockwise. */
 struct triangle c_corners(uint32_t node) {
     uint32_t levels = depth(node) - 1, upper = (node >> levels & 1) * 256;
     uint32_t ax = upper, ay = 256 - upper, bx = upper, by = upper, cx = 256 - upper, cy = upper;
@@ -100,6 +101,8 @@ struct triangle c_corners(uint32_t node) {
         bx = mx;
         by = my;
     }
+    if (depth(node) % 2 == 0)
+        return (struct triangle){{{cx, cy}, {bx, by}, {ax, ay}}};
     return (struct triangle){{{ax, ay}, {bx, by}, {cx, cy}}};
 }
 

@@ -174,10 +174,21 @@ fn points(node: u32) -> Triangle {
         }
         b = middle;
     }
-    [a, b, c]
+    counterclockwise(node, [a, b, c])
 }
 
-/// Algorithm 5 with each matrix of formula 3 applied to the corners at once: the same points, without a product of matrices.
+/// At even depth the matrices give the corners clockwise.
+#[inline(always)]
+fn counterclockwise(node: u32, [a, b, c]: Triangle) -> Triangle {
+    if depth(node) % 2 == 0 {
+        [c, b, a]
+    } else {
+        [a, b, c]
+    }
+}
+
+/// Algorithm 5 with each matrix of formula 3 applied to the corners at once: the same points, without a product of matrices. They go out
+/// counterclockwise, as ours do.
 #[no_mangle]
 #[inline(never)]
 pub fn ordinary_corners(node: u32) -> Triangle {
@@ -225,9 +236,10 @@ pub fn ordinary_corners_by_matrices(node: u32) -> Triangle {
         matrix = times(&CHILDREN[((node >> level) & 1) as usize], &matrix);
     }
     let first = if (node >> levels) & 1 == 0 { LOWER } else { UPPER };
-    matrix.map(|row| {
+    let points = matrix.map(|row| {
         [0, 1].map(|i| row.iter().zip(first).map(|(part, p)| part * p[i] as f32).sum::<f32>() as u32)
-    })
+    });
+    counterclockwise(node, points)
 }
 
 /// Algorithm 12: sets the leaf bit of the right child.
