@@ -59,7 +59,7 @@ square-sum u v = omega (arith, mul-add (u + v) u v, add-mul u v u, add-mul u v v
 more-by : (u q : ℕ) → squares (u + (u + q)) q ≡ 2 * squares u (u + q)
 more-by u q = omega (arith, square-sum u (u + q), square-sum u q, mul-add u u q)
 
--- of u and v, which a and b lie apart by
+-- the squares of the sum of u and v, and of their difference, by which a and b lie apart
 sum-difference : (u v a b : ℕ) → a + u ≡ b + v → squares (u + v) (apart a b) ≡ 2 * squares u v
 sum-difference u v a b e = go (apart a b) (apart-by a b)
   where
