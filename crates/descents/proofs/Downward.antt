@@ -16,7 +16,8 @@ use Rattle.words.specs.inner.Working.{Room}
 use Rattle.words.proofs.Slots.{from, wide, packed, in-panel}
 use Rattle.panel.specs.Panels.{deepOf, CutOf, Good, LeafOf, numberIn, leafCount}
 use Rattle.descents.specs.inner.Descents.{OnWay, Spot, Picked}
-use Rattle.panel.proofs.Lengths.{fits-small, fits-bits, good-room}
+use Rattle.words.proofs.Rooms.{room-bytes}
+use Rattle.panel.proofs.Lengths.{fits-small, good-room}
 use Rattle.cuts.proofs.Places.{cut-depth}
 use Rattle.cuts.proofs.Covering.{ancestor-is}
 use Rattle.cuts.proofs.Descent.{reached-left, reached-right}
@@ -29,7 +30,7 @@ pub record Children (s : List ℕ) (left p k w : ℕ) : Type 0 where
   pub back : k ≤ p
   pub four : 4 ≤ length s
   pub room : 2 * (p - k) + left ≤ 8 * length s
-  pub few : 8 * length s ≤ 2 ^ 19
+  pub few : 2 * (p - k) + left ≤ 2 ^ 19
   pub low : k < 2 ^ 17
   pub counts : numberIn s k + w < 2 ^ 18
   pub holds : field s (2 * (p - k)) left ≡ word (deepOf s) s (2 * k)
@@ -97,13 +98,14 @@ module _ (s : List ℕ) (G : Good s) where
       pub children : Children s left p k w
       unfolding word
       children =
-          let size = fits-bits s (deepOf s) (G .fits) in record {
+          let r = good-room s G refl in
+          let end : 2 * (p - k) + left ≤ 2 ^ (deepOf s + 2) = omega (arith, at-left, wide-left, in-panel (deepOf s) (2 * k) (omega (arith, kids))) in record {
             levels = omega (arith, above, S .levels);
             most = omega (arith, S .levels, fits-small (G .fits));
             back = omega (arith, own, S .place);
-            four = omega (arith, size, pow-mono {i = 5} {j = deepOf s + 2} (omega (arith, G .fits .low)));
-            room = omega (arith, size, at-left, wide-left, in-panel (deepOf s) (2 * k) (omega (arith, kids)));
-            few = omega (arith, size, pow-mono {i = deepOf s + 2} {j = 19} (omega (arith, fits-small (G .fits))));
+            four = room-bytes r;
+            room = omega (arith, r .long);
+            few = omega (arith, pow-mono {i = deepOf s + 2} {j = 19} (omega (arith, r .high)));
             low = omega (arith, low, pow-mono {i = deepOf s} {j = 17} (fits-small (G .fits)));
             counts = omega (arith, S .within, count-lt);
             holds = ap₂ (field s) at-left (sym wide-left);

@@ -17,8 +17,8 @@ use Rattle.panel.specs.Panels.{deepOf, CutOf, Good, LeafOf, leafCount}
 use Rattle.panel.specs.Calls.{SplitAt}
 use Rattle.cuts.proofs.Places.{cut-set}
 use Rattle.cuts.proofs.Leaves.{GoodBits}
-use Rattle.panel.proofs.GoodPanels.{good-bits}
-use Rattle.panel.proofs.SameBytes.{deep-same, cut-of, dec-cuts}
+use Rattle.panel.proofs.GoodPanels.{dec-cuts, good-bits}
+use Rattle.panel.proofs.SameBytes.{deep-same, cut-of}
 use Rattle.cuts.proofs.Following.{place-cut}
 use Rattle.cuts.proofs.OneBit.{named-place}
 use Rattle.cuts.proofs.ForcedCuts.{Added, first-added, forcedList, few, listed, smallest-iff-added}

@@ -9,8 +9,7 @@ use Rattle.cuts.specs.Cuts.{LeafAbove}
 use Rattle.cuts.proofs.Covering.{above-once, above-no-leaf, above-no-cut}
 use Rattle.panel.specs.Panels.{CutOf, Good, InRange, LeafOf, BelowLeaf}
 use Rattle.panel.specs.Calls.{leafRows}
-use Rattle.panel.proofs.GoodPanels.{one-of-three}
-use Rattle.panel.proofs.SameBytes.{dec-cuts}
+use Rattle.panel.proofs.GoodPanels.{dec-cuts, one-of-three}
 
 -- what holds of a node in range of a good panel: cut and below a leaf exclude each other, together they are "not a leaf", and there is one leaf above
 pub record WhyNoLeaf (s : List ℕ) (k : ℕ) : Type 0 where

@@ -18,7 +18,8 @@ use Rattle.cuts.proofs.Places.{cut-low}
 use Rattle.cuts.proofs.ForcedCuts.{smallest-of}
 use Rattle.cuts.proofs.TakingBack.{Kept, Mergeable, smallest-kept, split-mergeable, split-back, back-leaf}
 use Rattle.panel.proofs.Lengths.{fits-small}
-use Rattle.panel.proofs.SameBytes.{dec-cuts, deep-same, bytes-same}
+use Rattle.panel.proofs.GoodPanels.{dec-cuts}
+use Rattle.panel.proofs.SameBytes.{deep-same, bytes-same}
 use Rattle.cutting.proofs.AtWork.{merging-deep, together-mergeable, mergeable-together}
 
 module _ {s t : List ℕ} (G : Good s) {k : ℕ} (l : LeafOf s k) (a : SplitAt s k t) where

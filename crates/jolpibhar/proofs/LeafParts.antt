@@ -1,4 +1,4 @@
--- The part told by numbers is the one that `leaf_bits` gives: a quarter of the panel's bytes, behind three times as many.
+-- The part told by numbers is the one that `leaf_bits` gives: a quarter of the words' bytes, behind three times as many.
 use mathlib.Core.Path.{_≡_, sym, ap, _∙_, subst}
 use mathlib.Core.List.{List, []}
 use Prim.Native.Nat.{ℕ, _-_, _*_, _^_, _≤_}
@@ -10,11 +10,11 @@ use Rattle.tables.proofs.Tables.{outcome-one}
 use Rattle.words.proofs.Rooms.{bounds}
 use Rattle.panel.specs.Panels.{deepOf, RightLength, leafPart}
 use Rattle.panel.specs.Calls.{Judged, LeafBits}
-use Rattle.panel.proofs.Lengths.{fits-room, fits-bits}
+use Rattle.panel.proofs.Lengths.{fits-room}
 use Rattle.panel.proofs.LeafRows.{good-past}
 use Rattle.jolpibhar.specs.Parts.{Part, LeafBytes}
 
--- the part is a quarter of the panel
+-- the part has q bytes
 record Quarter (s : List ℕ) (q : ℕ) : Type 0 where
   long : length (leafPart s) ≡ q
   few : q ≤ 16384
@@ -22,9 +22,10 @@ record Quarter (s : List ℕ) (q : ℕ) : Type 0 where
 quarter : (s : List ℕ) → RightLength s → Quarter s (2 ^ (deepOf s - 3))
 quarter s f =
     let q = 2 ^ (deepOf s - 3) in
-    let b = bounds (fits-room s (deepOf s) f) in
+    let r = fits-room s (deepOf s) f in
+    let b = bounds r in
     record {
-      long = length-take-le q (drop (3 * q) s) (omega (arith, length-drop (3 * q) s, fits-bits s (deepOf s) f, b));
+      long = length-take-le q (drop (3 * q) s) (omega (arith, length-drop (3 * q) s, r .long, b));
       few = omega (arith, b);
     }
 

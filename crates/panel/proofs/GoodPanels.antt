@@ -14,12 +14,16 @@ use Rattle.cuts.specs.Cuts.{CoverOnce, placeOf}
 use Rattle.panel.specs.Panels.{deepOf, CutOf, Good, InRange, LeafOf, BelowLeaf, numberIn, leafCount}
 use Rattle.panel.specs.Calls.{LeafNumbered, Fresh}
 use Rattle.panel.proofs.Lengths.{fits-small}
-use Rattle.panel.proofs.SameBytes.{dec-cuts}
 use Rattle.cuts.proofs.Covering as covering
 use Rattle.cuts.proofs.Leaves.{GoodBits, cover-once, leaf-range}
 use Rattle.cuts.proofs.Numbering as numbering
 use Rattle.cuts.proofs.Descent as descent
 use Rattle.cuts.proofs.Areas.{total, shares}
+use Rattle.cuts.proofs.Places.{dec-cut}
+
+-- whether a node is cut is decided
+pub dec-cuts : {t : List ℕ} → Good t → (n : ℕ) → Dec (CutOf t n)
+dec-cuts {t} G = dec-cut (deepOf t) (leafBit (deepOf t) t) (omega (arith, fits-small (G .fits)))
 
 module _ (s : List ℕ) (G : Good s) where
   pub good-bits : GoodBits (deepOf s) (leafBit (deepOf s) s)

@@ -12,8 +12,8 @@ use Rattle.panel.specs.Calls.{panelRows, Judged, Count, LeafBits, LeafNu
 use Rattle.cuts.proofs.Covering.{above-once}
 use Rattle.cuts.proofs.ForcedCuts.{smallest-one}
 use Rattle.panel.proofs.LeafRows.{numberRows, good-past}
-use Rattle.panel.proofs.GoodPanels.{number-once}
-use Rattle.panel.proofs.SameBytes.{dec-cuts, bytes-same}
+use Rattle.panel.proofs.GoodPanels.{dec-cuts, number-once}
+use Rattle.panel.proofs.SameBytes.{bytes-same}
 
 -- ---- calls that read
 

@@ -16,7 +16,6 @@ use Rattle.sums.proofs.Unique.{right-one}
 use Rattle.cuts.specs.Cuts.{Cut}
 use Rattle.panel.specs.Panels.{deepOf, CutOf, Good}
 use Rattle.panel.proofs.Lengths.{fits-small, fits-bits}
-use Rattle.cuts.proofs.Places.{dec-cut}
 use Rattle.cuts.proofs.OneBit.{bits-same}
 
 -- the depth comes from the length
@@ -26,10 +25,6 @@ deep-same s t e = ap (λ n. depthOf n + 1) e
 -- the cuts of a panel as long as s, by the depth of s
 pub cut-of : (s t : List ℕ) → length t ≡ length s → (n : ℕ) → CutOf t n ↔ Cut (deepOf s) (leafBit (deepOf s) t) n
 cut-of s t e n = (λ c. subst (λ D. Cut D (leafBit D t) n) (deep-same s t e) c, λ c. subst (λ D. Cut D (leafBit D t) n) (sym (deep-same s t e)) c)
-
--- whether a node is cut is decided
-pub dec-cuts : {t : List ℕ} → Good t → (n : ℕ) → Dec (CutOf t n)
-dec-cuts {t} G = dec-cut (deepOf t) (leafBit (deepOf t) t) (omega (arith, fits-small (G .fits)))
 
 -- behind the last byte all bits are 0
 past : (bs : List ℕ) (p : ℕ) → 8 * length bs ≤ p → bit bs p ≡ 0
