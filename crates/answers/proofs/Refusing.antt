@@ -4,7 +4,7 @@ use mathlib.Core.Logic.{_≢_}
 use Prim.Native.Nat.{_<_}
 use native.Mathlib.Omega.{arith}
 use Rattle.answers.specs.declared.Refusal.{Refusal}
-use Rattle.answers.specs.declared.Refusal.the-variants.{WrongLength, NotGood, NoSuchNode, IsCut, AtGreatestDepth, AtDepthOne, LeavesMissing, NoSuchNumber, BadRecord, BelowLeaf, PanelInUse}
+use Rattle.answers.specs.declared.Refusal.the-variants.{WrongLength, NotGood, NoSuchNode, IsCut, AtGreatestDepth, AtDepthOne, LeavesMissing, NoSuchNumber, BadRecord, BelowLeaf, LeafPinned, PanelInUse}
 use Rattle.answers.specs.declared.Answer.{Answer}
 use Rattle.answers.specs.declared.Answer.the-variants.{Done, No}
 use Rattle.answers.specs.Refusals.{refusalNumber, refusalAncestor, answerNumber}
@@ -21,6 +21,7 @@ refusal-range LeavesMissing = omega arith
 refusal-range NoSuchNumber = omega arith
 refusal-range BadRecord = omega arith
 refusal-range (BelowLeaf k) = omega arith
+refusal-range LeafPinned = omega arith
 refusal-range PanelInUse = omega arith
 
 pub refusal-pos : (e : Refusal) → refusalNumber e ≢ 0
@@ -42,4 +43,5 @@ refusal-alone LeavesMissing z = refl
 refusal-alone NoSuchNumber z = refl
 refusal-alone BadRecord z = refl
 refusal-alone (BelowLeaf k) z = absurd (z refl)
+refusal-alone LeafPinned z = refl
 refusal-alone PanelInUse z = refl

@@ -3,9 +3,9 @@ use nodes::LeafNumber;
 use nodes::Node;
 use nodes::Triple;
 ghost use mathlib.Core.Path.{_≡_};
-ghost use Rattle.answers.specs.Refusals.{refusalNumber, refusalAncestor, answerNumber, answerAncestor, countedNumber, countedLeaves, foundNumber, foundNode, numberedNumber, numberedLeaf, numberedAncestor, aroundNumber, aroundTriple};
+ghost use Rattle.answers.specs.Refusals.{refusalNumber, refusalAncestor, answerNumber, answerAncestor, countedNumber, countedLeaves, foundNumber, foundNode, numberedNumber, numberedLeaf, numberedAncestor, pinningNumber, pinningBit, pinningAncestor, aroundNumber, aroundTriple};
 
-// Why a call is refused, in the order of the customer's numbers: 1 to 10, and 18. A node that lies below a leaf is refused with that leaf.
+// Why a call is refused, in the order of the customer's numbers: 1 to 11, and 18. A node that lies below a leaf is refused with that leaf.
 pub enum Refusal {
     WrongLength,
     NotGood,
@@ -17,6 +17,7 @@ pub enum Refusal {
     NoSuchNumber,
     BadRecord,
     BelowLeaf(Node),
+    LeafPinned,
     PanelInUse,
 }
 
@@ -35,6 +36,7 @@ impl Refusal {
             Refusal::NoSuchNumber => 8,
             Refusal::BadRecord => 9,
             Refusal::BelowLeaf(_) => 10,
+            Refusal::LeafPinned => 11,
             Refusal::PanelInUse => 18,
         }
     }
@@ -54,6 +56,7 @@ impl Refusal {
             Refusal::NoSuchNumber => 0,
             Refusal::BadRecord => 0,
             Refusal::BelowLeaf(k) => k.0,
+            Refusal::LeafPinned => 0,
             Refusal::PanelInUse => 0,
         }
     }
@@ -164,6 +167,41 @@ impl Numbered {
         match self {
             Numbered::Number(_) => 0,
             Numbered::No(e) => e.ancestor(),
+        }
+    }
+}
+
+pub enum Pinning {
+    Pinned(bool),
+    No(Refusal),
+}
+
+impl Pinning {
+    pub fn number(self) -> u32
+        ensures { λ r. ⌜ r ≡ pinningNumber self ⌝ }
+    {
+        match self {
+            Pinning::Pinned(_) => 0,
+            Pinning::No(e) => e.number(),
+        }
+    }
+
+    // 1 for a leaf that is pinned, and else 0.
+    pub fn bit(self) -> u32
+        ensures { λ r. ⌜ r ≡ pinningBit self ⌝ }
+    {
+        match self {
+            Pinning::Pinned(b) => b as u32,
+            Pinning::No(_) => 0,
+        }
+    }
+
+    pub fn ancestor(self) -> u32
+        ensures { λ r. ⌜ r ≡ pinningAncestor self ⌝ }
+    {
+        match self {
+            Pinning::Pinned(_) => 0,
+            Pinning::No(e) => e.ancestor(),
         }
     }
 }

@@ -2,13 +2,14 @@
 use answers::Counted;
 use answers::Found;
 use answers::Numbered;
+use answers::Pinning;
 use answers::Refusal;
 use nodes::LeafNumber;
 use nodes::Node;
 use panel::judging::Judgement;
 use panel::judging::good_depth;
-ghost use Rattle.answers.specs.Refusals.{countedNumber, countedLeaves, foundNumber, foundNode, numberedNumber, numberedLeaf, numberedAncestor};
-ghost use Rattle.panel.specs.Calls.{Count, LeafAt, Ancestor, NumberOf, LeafBits};
+ghost use Rattle.answers.specs.Refusals.{countedNumber, countedLeaves, foundNumber, foundNode, numberedNumber, numberedLeaf, numberedAncestor, pinningNumber, pinningBit, pinningAncestor};
+ghost use Rattle.panel.specs.Calls.{Count, LeafAt, Ancestor, NumberOf, PinOf, LeafBits};
 
 // The leaf count, or refusal 1 or 2.
 pub fn count(panel: &[u8]) -> Counted
@@ -46,6 +47,18 @@ pub fn number_of(panel: &[u8], k: Node) -> Numbered
     match j {
         Judgement::Good(deep) => leaves::number_of(panel, deep, k),
         Judgement::No(e) => Numbered::No(e),
+    }
+}
+
+// Whether leaf k is pinned, or refusal 1, 2, 3, 4 or 10.
+pub fn pinned(panel: &[u8], k: Node) -> Pinning
+    ensures { λ r. ⌜ PinOf (now (panel .entry)) (k .0) (pinningNumber r) (pinningBit r) ⌝ }
+    ensures { λ r. ⌜ Ancestor (now (panel .entry)) (k .0) (pinningNumber r) (pinningAncestor r) ⌝ }
+{
+    let j = good_depth(panel);
+    match j {
+        Judgement::Good(deep) => pinning::pinned(panel, deep, k),
+        Judgement::No(e) => Pinning::No(e),
     }
 }
 

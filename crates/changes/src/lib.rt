@@ -7,6 +7,7 @@ use cutting::split_leaf;
 use leaves::is_leaf;
 use leaves::number_of;
 use nodes::Node;
+use pinning::unpinned;
 ghost use mathlib.Core.Path.{_≡_};
 ghost use Prim.Native.Nat.{_<_};
 ghost use Rattle.nodes.specs.Depth.{depthOf};
@@ -51,7 +52,7 @@ fn together(panel: &[u8], deep: usize, k: Node) -> bool
     false
 }
 
-// Merges leaf k: 0, or refusal 3, 4, 10, 6 or 7 and no byte written.
+// Merges leaf k: 0, or refusal 3, 4, 10, 6, 7 or 11 and no byte written.
 pub fn merge(panel: &mut [u8], deep: usize, k: Node) -> Answer
     requires { ⌜ Good (now panel) × (deep ≡ deepOf (now panel)) ⌝ }
     ensures { λ r. ⌜ Merge (now (panel .entry)) (k .0) (answerNumber r) (now (panel .exit)) ⌝ }
@@ -66,6 +67,9 @@ pub fn merge(panel: &mut [u8], deep: usize, k: Node) -> Answer
     }
     if !together(panel, deep, k) {
         return Answer::No(Refusal::LeavesMissing);
+    }
+    if !unpinned(panel, deep, k) {
+        return Answer::No(Refusal::LeafPinned);
     }
     merge_leaves(panel, deep, k);
     Answer::Done

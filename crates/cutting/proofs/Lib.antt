@@ -1,2 +1,4 @@
 pub mod AtWork
+pub mod Keeping
+pub mod Passing
 pub mod ToMerge

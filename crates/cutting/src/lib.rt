@@ -3,12 +3,16 @@ use cuts::cut_place;
 use cuts::is_cut;
 use nodes::Node;
 ghost use mathlib.Core.Path.{_≡_};
-ghost use Prim.Native.Nat.{_≤_, _<_};
+ghost use Prim.Native.Nat.{_/_, _≤_, _<_};
 ghost use Rattle.nodes.specs.Depth.{depthOf};
+ghost use Rattle.words.specs.Words.{leafBit};
 ghost use Rattle.words.specs.inner.Working.{Room};
+ghost use Rattle.cuts.specs.Cuts.{Cut};
+ghost use Rattle.cuts.specs.inner.Steps.{NodeOf};
+ghost use Rattle.pins.specs.inner.Steps.{PinRoom};
 ghost use Rattle.panel.specs.Panels.{deepOf, Good, LeafOf};
-ghost use Rattle.panel.specs.Calls.{SplitAt, Together, MergeAt};
-ghost use Rattle.cutting.specs.inner.Changing.{CutPut, SplitBits, MergeBits};
+ghost use Rattle.panel.specs.Calls.{SplitAt, Together, Unpinned, MergeAt};
+ghost use Rattle.cutting.specs.inner.Changing.{CutPut, CutUnder, Holder, SplitBits, MergeBits};
 
 // Sets or clears the leaf bit that names n; the sums stay as they are.
 fn put_cut(panel: &mut [u8], deep: usize, n: Node, v: u8)
@@ -18,19 +22,44 @@ fn put_cut(panel: &mut [u8], deep: usize, n: Node, v: u8)
     words::put_leaf_bit(panel, deep, cut_place(deep, n), v);
 }
 
-// Cuts leaf k and what its cut forces: the neighbour across the long side, its uncut parent, and so on up.
+// Cuts node n: the new leaf, n's right child, gets the pin of l. The sums stay as they are.
+fn cut_under(panel: &mut [u8], deep: usize, n: Node, l: Node)
+    requires { ⌜ PinRoom deep (now panel) × (1 ≤ n .0) × (depthOf (n .0) < deep) × (1 ≤ l .0) × (depthOf (l .0) ≤ deep) ⌝ }
+    ensures { λ _. ⌜ CutUnder deep (now (panel .entry)) (n .0) (l .0) (now (panel .exit)) ⌝ }
+{
+    let v = pins::pin(panel, deep, pins::leaf_place(deep, l));
+    let p = cut_place(deep, n);
+    words::put_leaf_bit(panel, deep, p, 1);
+    pins::put_pin(panel, deep, p, v);
+}
+
+// The leaf that n is or lies right below: n where its parent is cut, and else the parent.
+fn holder(panel: &[u8], deep: usize, n: Node) -> Node
+    requires { ⌜ Room deep (now panel) × NodeOf deep (n .0 / 2) ⌝ }
+    ensures { λ r. ⌜ Holder (Cut deep (leafBit deep (now (panel .entry)))) (n .0) (r .0) ⌝ }
+{
+    let up = n.0 / 2;
+    if is_cut(panel, deep, Node(up)) {
+        return n;
+    }
+    Node(up)
+}
+
+// Cuts leaf k and what its cut forces: the neighbour across the long side, its uncut parent, and so on up. Each new leaf gets the pin
+// of the old leaf that it lies below; a neighbour whose parent is uncut gets the parent's, before the parent is cut.
 fn cut_chain(panel: &mut [u8], deep: usize, k: Node)
     requires { ⌜ Good (now panel) × (deep ≡ deepOf (now panel)) × LeafOf (now panel) (k .0) × (depthOf (k .0) < deep) ⌝ }
     ensures { λ _. ⌜ SplitBits (now (panel .entry)) (k .0) (now (panel .exit)) ⌝ }
 {
     let mut cur = k.0;
     while !is_cut(panel, deep, Node(cur)) {
-        put_cut(panel, deep, Node(cur), 1);
+        cut_under(panel, deep, Node(cur), Node(cur));
         let e = nodes::edge_of(Node(cur));
         if e == 0 {
             return;
         }
-        put_cut(panel, deep, Node(e), 1);
+        let l = holder(panel, deep, Node(e));
+        cut_under(panel, deep, Node(e), l);
         cur = e / 2;
     }
 }
@@ -56,9 +85,9 @@ pub fn split_leaf(panel: &mut [u8], deep: usize, k: Node)
     making::make_sums(panel, deep);
 }
 
-// Merges leaf k, deeper than 1, where the leaves are there that this needs.
+// Merges leaf k, deeper than 1, where the leaves are there that this needs, and none of them is pinned.
 pub fn merge_leaves(panel: &mut [u8], deep: usize, k: Node)
-    requires { ⌜ Good (now panel) × (deep ≡ deepOf (now panel)) × LeafOf (now panel) (k .0) × (1 < depthOf (k .0)) × Together (now panel) (k .0) ⌝ }
+    requires { ⌜ Good (now panel) × (deep ≡ deepOf (now panel)) × LeafOf (now panel) (k .0) × (1 < depthOf (k .0)) × Together (now panel) (k .0) × Unpinned (now panel) (k .0) ⌝ }
     ensures { λ _. ⌜ MergeAt (now (panel .entry)) (k .0) (now (panel .exit)) ⌝ }
 {
     take_back(panel, deep, Node(k.0 / 2));

@@ -33,11 +33,12 @@ use Rattle.words.specs.Words.{word, leafBit}
 use Rattle.sums.proofs.Counts.{word-all}
 use Rattle.cuts.specs.Cuts.{CoverOnce}
 use Rattle.cuts.proofs.Areas.{total}
-use Rattle.panel.specs.Panels.{sizeOf, Fits, deepOf, CutOf, Good, InRange, LeafOf, leafCount}
-use Rattle.panel.specs.Calls.{panelRows, leafRows, Judged, Count, LeafBits, LeafAt, Ancestor, NumberOf, Open, SplitAt, Split, Together, MergeAt, Merge}
+use Rattle.panel.specs.Panels.{sizeOf, Fits, deepOf, CutOf, Good, InRange, LeafOf, Pinned, leafCount}
+use Rattle.panel.specs.Calls.{panelRows, leafRows, Judged, Count, LeafBits, LeafAt, Ancestor, NumberOf, PinOf, Open, SplitAt, Split, MergeAt, mergeRows, Merge, Pin, Unpin}
 use Rattle.panel.proofs.GoodPanels.{leaf-areas}
+use Rattle.panel.proofs.LeafRows.{rowsBehind}
 use Rattle.panel.proofs.SameBytes.{bytes-same}
-use Rattle.panel.proofs.Once.{judge-one, count-one, leaf-bits-one, leaf-at-one, ancestor-one, number-of-one, open-one, split-one, merge-one}
+use Rattle.panel.proofs.Once.{judge-one, count-one, leaf-bits-one, leaf-at-one, ancestor-one, number-of-one, pin-of-one, open-one, split-one, merge-one, pin-put-one}
 use Rattle.records.specs.Records.{kind, number, Fine, recordAt, mostRecords}
 use Rattle.steps.specs.Steps.{panelIn, leavesIn, Step}
 use Rattle.steps.specs.Holding.{Holds}
@@ -53,10 +54,12 @@ use Rattle.printing.proofs.Once.{lines-one, lines-then}
 use Rattle.evidence.specs.Known.{Every, knownCases}
 use Rattle.tables.specs.Exactly.{Exactly}
 use Rattle.tables.proofs.Exactness.{Differing, refused-exactly}
+use Rattle.evidence.proofs.Held.{Held, Since, never-covered}
 use Rattle.evidence.proofs.Known.{known}
 use Rattle.evidence.proofs.NoLeaf.{WhyNoLeaf, why-no-leaf, SaysWhy, says-why}
 use Rattle.evidence.proofs.Numbers.{NumbersName, numbers-name, number-of-leaf-at, leaf-at-number-of}
 use Rattle.evidence.proofs.Scans.{ScanKept, run-keeps-scan, runs-stay, runs-grow}
+use Rattle.evidence.proofs.ThereAndBack.{PinnedAround}
 use Rattle.evidence.proofs.Sequences.{Reached, always-good, always-covers, always-long-side, split-grows, back-answers, back-restores, again-restores}
 
 -- ---- demand 1: every input of every call has one outcome, refusals are exact, and what is lent is kept where a call refuses
@@ -87,14 +90,20 @@ pub record Demand1 : Type 0 where
   pub leaf-bits : (s : List ℕ) → Settled (panelRows s) (List ℕ) (Any (List ℕ)) [] (LeafBits s)
   pub leaf-at : (s : List ℕ) (i : ℕ) → Settled (panelRows s ++ unless 8 (i < leafCount s) ∷ []) ℕ (Any ℕ) 0 (LeafAt s i)
   pub number-of : (s : List ℕ) (k : ℕ) → Settled (leafRows s k) ℕ (Any ℕ) 0 (NumberOf s k)
+  pub pin-of : (s : List ℕ) (k : ℕ) → Settled (leafRows s k) ℕ (Any ℕ) 0 (PinOf s k)
   pub opens : (s : List ℕ) (D : ℕ) → Settled (unless 1 (Fits s D) ∷ []) (List ℕ) Bytes s (Open s D)
   pub split : (s : List ℕ) (k : ℕ) → Settled (leafRows s k ++ unless 5 (depthOf k < deepOf s) ∷ []) (List ℕ) Bytes s (Split s k)
-  pub merge : (s : List ℕ) (k : ℕ) → Settled (leafRows s k ++ unless 6 (1 < depthOf k) ∷ unless 7 (Together s k) ∷ []) (List ℕ) Bytes s (Merge s k)
+  pub merge : (s : List ℕ) (k : ℕ) → Settled (leafRows s k ++ mergeRows s k) (List ℕ) Bytes s (Merge s k)
+  pub pin : (s : List ℕ) (k : ℕ) → Settled (leafRows s k) (List ℕ) Bytes s (Pin s k)
+  pub unpin : (s : List ℕ) (k : ℕ) → Settled (leafRows s k) (List ℕ) Bytes s (Unpin s k)
   -- in range and not a leaf is exactly one of two, and 4 and 10 say which; beside an answer stands one ancestor
   pub no-leaf : (s : List ℕ) → Good s → (k : ℕ) → InRange s k → WhyNoLeaf s k
   pub number-of-why : {s : List ℕ} {k n i : ℕ} → NumberOf s k n i → SaysWhy s k n
   pub split-why : {s t : List ℕ} {k n : ℕ} → Split s k n t → SaysWhy s k n
   pub merge-why : {s t : List ℕ} {k n : ℕ} → Merge s k n t → SaysWhy s k n
+  pub pin-of-why : {s : List ℕ} {k n v : ℕ} → PinOf s k n v → SaysWhy s k n
+  pub pin-why : {s t : List ℕ} {k n : ℕ} → Pin s k n t → SaysWhy s k n
+  pub unpin-why : {s t : List ℕ} {k n : ℕ} → Unpin s k n t → SaysWhy s k n
   pub ancestor : (s : List ℕ) (k n a b : ℕ) → Ancestor s k n a → Ancestor s k n b → a ≡ b
   pub neighbours : (n : ℕ) → Settled (nodeRows n) Triple (Any Triple) none (Neighbours n)
   pub corners : (n : ℕ) → Settled (nodeRows n) Triangle (Any Triangle) noCorners (Corners n)
@@ -115,6 +124,16 @@ pub record Demand1 : Type 0 where
   pub printed : {given t x y : List ℕ} {D i j k : ℕ} → Ended given D t → Lines given D t i j x → Lines given D t i k y → j ≡ k → x ≡ y
   pub blocks : {given t x y : List ℕ} {D i j k : ℕ} → Lines given D t i j x → Lines given D t j k y → Lines given D t i k (x ++ y)
 
+-- the eight rows of a merge
+merge-differs : (s : List ℕ) (k : ℕ) → Differing (leafRows s k ++ mergeRows s k)
+merge-differs s k = (omega arith, omega arith, rest)
+  where
+    rest : Differing (unless 2 (Good s) ∷ rowsBehind s k (mergeRows s k))
+    rest = omega arith
+
+merge-says-why : {s t : List ℕ} {k n : ℕ} → Merge s k n t → SaysWhy s k n
+merge-says-why {s} {k = k} o = says-why (mergeRows s k) (merge-differs s k) (o .answer)
+
 pub demand-1 : Demand1
 demand-1 = record {
   judge = λ s. record {
@@ -126,13 +145,19 @@ demand-1 = record {
   leaf-bits = λ s. settled _ _ _ _ _ (omega arith) (λ n m x y _ _. leaf-bits-one s n m x y);
   leaf-at = λ s i. settled _ _ _ _ _ (omega arith) (λ n m x y _ _. leaf-at-one s i n m x y);
   number-of = λ s k. settled _ _ _ _ _ (omega arith) (λ n m x y _ _. number-of-one s k n m x y);
+  pin-of = λ s k. settled _ _ _ _ _ (omega arith) (λ n m x y _ _. pin-of-one s k n m x y);
   opens = λ s D. settled _ _ _ _ _ (omega arith) (open-one s D);
   split = λ s k. settled _ _ _ _ _ (omega arith) (split-one s k);
-  merge = λ s k. settled _ _ _ _ _ (omega arith) (merge-one s k);
+  merge = λ s k. settled _ _ _ _ _ (merge-differs s k) (merge-one s k);
+  pin = λ s k. settled _ _ _ _ _ (omega arith) (pin-put-one s k 1);
+  unpin = λ s k. settled _ _ _ _ _ (omega arith) (pin-put-one s k 0);
   no-leaf = why-no-leaf;
   number-of-why = λ o. says-why [] (omega arith) (o .answer);
   split-why = λ o. says-why (unless 5 _ ∷ []) (omega arith) (o .answer);
-  merge-why = λ o. says-why (unless 6 _ ∷ unless 7 _ ∷ []) (omega arith) (o .answer);
+  merge-why = merge-says-why;
+  pin-of-why = λ o. says-why [] (omega arith) (o .answer);
+  pin-why = λ o. says-why [] (omega arith) (o .answer);
+  unpin-why = λ o. says-why [] (omega arith) (o .answer);
   ancestor = ancestor-one;
   neighbours = λ n. settled _ _ _ _ _ (omega arith) (λ a b x y _ _. neighbours-one n a b x y);
   corners = λ n. settled _ _ _ _ _ (omega arith) (λ a b x y _ _. corners-one n a b x y);
@@ -157,8 +182,9 @@ pub record Read (s : List ℕ) : Type 0 where
   pub forth : (k i : ℕ) → NumberOf s k 0 i → LeafAt s i 0 k
   -- the count is word 1, and counts the leaf bits that are set
   pub counts : (c : ℕ) → Count s 0 c → (c ≡ word (deepOf s) s 1) × (c ≡ rank (leafBit (deepOf s) s) (2 ^ deepOf s))
-  -- cuts settle the bytes
-  pub same : (t : List ℕ) → Good t → deepOf s ≡ deepOf t → Bytes s → Bytes t → ((n : ℕ) → 1 ≤ n → (CutOf s n ↔ CutOf t n)) → s ≡ t
+  -- cuts and pinned leaves settle the bytes
+  pub same : (t : List ℕ) → Good t → deepOf s ≡ deepOf t → Bytes s → Bytes t → ((n : ℕ) → 1 ≤ n → (CutOf s n ↔ CutOf t n))
+      → ((k : ℕ) → LeafOf s k → Pinned s k ↔ Pinned t k) → s ≡ t
   -- twice the leaves' areas, by the corners that are handed out, sum to 131,072
   pub areas : (leaf : ℕ → ℕ) (corners : ℕ → Triangle) → ((i : ℕ) → i < leafCount s → LeafAt s i 0 (leaf i) × Corners (leaf i) 0 (corners i))
       → total (λ i. twiceArea (corners i)) (leafCount s) ≡ 131072
@@ -252,7 +278,7 @@ demand-2 = record { panel = panel-read; node = node-placed; corners = handed-out
 -- ---- demand 3: any sequence of calls keeps covering and the long side rule; splits are smallest and bounded, merges exact
 
 pub record Demand3 : Type 0 where
-  -- after an accepted open and any outcomes of split and merge; and after a run of records
+  -- after an accepted open and any outcomes of split, merge, pin and unpin; and after a run of records
   pub good : {t : List ℕ} → Reached t → Good t
   pub covers : {t : List ℕ} → Reached t → CoverOnce (deepOf t) (CutOf t)
   pub long-side : {t : List ℕ} → Reached t → (n : ℕ) → 2 ≤ n → CutOf t n → edge n ≢ 0 → CutOf t (edge n)
@@ -266,8 +292,12 @@ pub record Demand3 : Type 0 where
   pub bounded : {s : List ℕ} {k : ℕ} {t : List ℕ} → Split s k 0 t → (leafCount s + 1 ≤ leafCount t) × (leafCount t ≤ leafCount s + 2 * depthOf k)
   -- exactly the parent's cut and the one across
   pub exact : {s : List ℕ} {k : ℕ} {t : List ℕ} → Merge s k 0 t → MergeAt s k t
-  -- after a split its merge is accepted, and leads back exactly where k's edge neighbour was none or a leaf; after a merge the split leads back
-  pub accepted : {s : List ℕ} {k : ℕ} {t : List ℕ} → Split s k 0 t → (n : ℕ) (u : List ℕ) → Merge t (2 * k) n u → n ≡ 0
+  -- a pinned leaf's triangle is never covered by a coarser leaf: it is a leaf or is cut, and every leaf inside it is pinned
+  pub held : {s t : List ℕ} {l : ℕ} → Good s → LeafOf s l → Pinned s l → Since s l t → Held t l
+  -- after a split its merge is accepted, or refused with 11 exactly where it meets a pin that was passed on; it leads back exactly where k's edge neighbour was
+  -- none or a leaf; after a merge the split leads back
+  pub accepted : {s : List ℕ} {k : ℕ} {t : List ℕ} → Split s k 0 t → (n : ℕ) (u : List ℕ) → Merge t (2 * k) n u
+      → ((n ≡ 11) ↔ PinnedAround s k) × ((n ≡ 0) ↔ (PinnedAround s k → ⊥))
   pub back : {s : List ℕ} {k : ℕ} {t u : List ℕ} → Bytes s → Bytes u → Split s k 0 t → Merge t (2 * k) 0 u → (u ≡ s) ↔ ((edge k ≡ 0) ⊎ LeafOf s (edge k))
   pub again : {s : List ℕ} {k : ℕ} {t : List ℕ} → Bytes s → Merge s k 0 t → (n : ℕ) (u : List ℕ) → Bytes u → Split t (k / 2) n u → (n ≡ 0) × (u ≡ s)
 
@@ -283,6 +313,7 @@ demand-3 = record {
   smallest = λ o. o .done refl;
   bounded = split-grows;
   exact = λ o. o .done refl;
+  held = never-covered;
   accepted = back-answers;
   back = back-restores;
   again = again-restores;

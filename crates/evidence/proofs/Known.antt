@@ -18,12 +18,14 @@ use Rattle.tables.proofs.Tables.{is-done}
 use Rattle.sums.specs.Rank.{rank}
 use Rattle.words.specs.Words.{word, leafBit}
 use Rattle.panel.specs.Panels.{Fits}
-use Rattle.panel.specs.Calls.{Fresh, Open}
+use Rattle.panel.specs.Calls.{Fresh, Open, mergeRows}
+use Rattle.pins.specs.Pins.{pinBit}
+use Rattle.panel.proofs.LeafRows.{rowsBehind}
 use Rattle.panel.proofs.Rows.{is-good}
-use Rattle.evidence.specs.Known.{Case, judged, opens, splits, merges, refused, neighbours, corners, Holds, Every, knownCases}
+use Rattle.evidence.specs.Known.{Case, judged, opens, splits, merges, pins, unpins, pinned, refused, neighbours, corners, Holds, Every, knownCases}
 use Rattle.evidence.proofs.Saying.{_and_, upTo, sameList, same-list, firstNo}
-use Rattle.evidence.proofs.Testing.{cutIn, goodIn, leafIn, forcedIn, fitsIn, sumsIn, rightIn, goodPanel, good-shown}
-use Rattle.evidence.proofs.Calling.{leavesIn, leaves-shown, freshIn, fresh-shown, splitIn, split-shown, mergeIn, merge-shown, splitRows, splitTests, split-tested, mergeRows, mergeTests, merge-tested, leafTests, ancestorIn, refusedIn, refused-shown, changed, changed-shown}
+use Rattle.evidence.proofs.Testing.{cutIn, goodIn, leafIn, forcedIn, fitsIn, sumsIn, rightIn, pinsIn, goodPanel, good-shown}
+use Rattle.evidence.proofs.Calling.{leavesIn, leaves-shown, freshIn, fresh-shown, passedIn, splitIn, split-shown, keptIn, mergeIn, merge-shown, pinIn, pin-shown, splitRows, splitTests, split-tested, mergeTests, merge-tested, leafTests, leaf-alone, pinOfIn, pin-of-shown, ancestorIn, refusedIn, refused-shown, changed, changed-shown}
 
 knownNode : ℕ → Bool
 knownNode n = leb 2 n && ltb n (2 ^ (greatestDepth + 1))
@@ -44,7 +46,10 @@ test : Case → Bool
 test (judged t ks) = goodPanel t && leavesIn t 0 ks
 test (opens D t ks) = goodPanel t && freshIn D t && leavesIn t 0 ks
 test (splits s k n t ks) = changed (splitRows s k) (splitTests s k) (splitIn s k t) s n t ks
-test (merges s k n t ks) = changed (mergeRows s k) (mergeTests s k) (mergeIn s k t) s n t ks
+test (merges s k n t ks) = changed (rowsBehind s k (mergeRows s k)) (mergeTests s k) (mergeIn s k t) s n t ks
+test (pins s k n t ks) = changed (rowsBehind s k []) (leafTests s k []) (pinIn s k 1 t) s n t ks
+test (unpins s k n t ks) = changed (rowsBehind s k []) (leafTests s k []) (pinIn s k 0 t) s n t ks
+test (pinned s k v) = pinOfIn s k v
 test (refused s k n a) = refusedIn s k n a
 test (neighbours n l r e) =
     knownNode n && eqb l (neighboursOf n .left) && eqb r (neighboursOf n .right) && eqb e (neighboursOf n .edge)
@@ -57,7 +62,10 @@ sound (judged t ks) e =
 sound (opens D t ks) e =
     let ((G, x), y) = (good-shown t and (λ x. x) and (λ y. y)) e in (opened-any (fresh-shown G x), leaves-shown G 0 ks y)
 sound (splits s k n t ks) e = changed-shown (splitRows s k) (splitTests s k) n ks (λ S. split-tested S k) (split-shown k) e
-sound (merges s k n t ks) e = changed-shown (mergeRows s k) (mergeTests s k) n ks (λ S. merge-tested S k) (merge-shown k) e
+sound (merges s k n t ks) e = changed-shown (rowsBehind s k (mergeRows s k)) (mergeTests s k) n ks (λ S. merge-tested S k) (merge-shown k) e
+sound (pins s k n t ks) e = changed-shown (rowsBehind s k []) (leafTests s k []) n ks (λ S. leaf-alone S k) (λ _ _. pin-shown k 1) e
+sound (unpins s k n t ks) e = changed-shown (rowsBehind s k []) (leafTests s k []) n ks (λ S. leaf-alone S k) (λ _ _. pin-shown k 0) e
+sound (pinned s k v) e = pin-of-shown s k v e
 sound (refused s k n a) e = refused-shown s k n a e
 sound (neighbours n l r e) z =
     let (((a, p), q), o) = (is-known n and eqb-true l (neighboursOf n .left) and eqb-true r (neighboursOf n .right) and eqb-true e (neighboursOf n .edge)) z in
@@ -77,7 +85,7 @@ all-sound [] e = tt
 all-sound (c ∷ cs) e = (sound c and all-sound cs) e
 
 tested : So (tests knownCases)
-unfolding tests test knownNode upTo sameList firstNo cutIn goodIn leafIn forcedIn fitsIn sumsIn rightIn goodPanel leavesIn freshIn splitIn mergeIn splitTests mergeTests leafTests ancestorIn refusedIn changed run word leafBit rank depthOf depthIn neighboursOf neighboursAt cornersOf cornersAt
+unfolding tests test knownNode upTo sameList firstNo cutIn goodIn leafIn forcedIn fitsIn sumsIn rightIn pinsIn goodPanel leavesIn freshIn passedIn splitIn keptIn mergeIn pinIn pinOfIn splitTests mergeTests leafTests ancestorIn refusedIn changed run word leafBit pinBit rank depthOf depthIn neighboursOf neighboursAt cornersOf cornersAt
 tested = refl
 
 pub known : Every knownCases

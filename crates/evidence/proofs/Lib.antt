@@ -1,6 +1,8 @@
 pub mod Calling
 pub mod Demands
 pub mod Growth
+pub mod Held
+pub mod Inside
 pub mod Known
 pub mod NoLeaf
 pub mod Numbers

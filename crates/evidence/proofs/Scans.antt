@@ -1,18 +1,20 @@
--- No record loses a scan. A split adds leaves, an open is accepted only over no panel or two leaves and leaves two, and a refusal changes nothing: so only
+-- No record loses a scan. A split adds leaves, a pin or an unpin changes none, an open is accepted only over no panel or two leaves and leaves two, and a refusal changes nothing: so only
 -- an accepted merge lowers the leaf count.
 use mathlib.Core.Path.{_≡_, refl, ap, _∙_, subst}
 use mathlib.Core.Logic.{_≢_, _⊎_, inl, inr}
 use mathlib.Core.List.{List}
-use Prim.Native.Nat.{ℕ, _≤_}
+use Prim.Native.Nat.{ℕ, _≤_, _<_}
 use native.Mathlib.Decide.{ℕ-discrete}
 use native.Mathlib.Omega.{arith}
 use lib.ListN.{length}
-use Rattle.panel.specs.Panels.{sizeOf}
-use Rattle.panel.specs.Calls.{Open, Split}
+use Rattle.tables.specs.Table.{Row, Outcome}
+use Rattle.panel.specs.Panels.{sizeOf, Good, leafCount}
+use Rattle.panel.specs.Calls.{Open, Split, PinPut}
+use Rattle.panel.proofs.Pinning.{pinned-count, put-leaf}
 use Rattle.panel.proofs.GoodPanels.{two-leaves, fresh-count}
 use Rattle.records.specs.Records.{kind, Fine, recordAt}
 use Rattle.steps.specs.Steps.{panelIn, changed, leavesIn, Called, Step}
-use Rattle.steps.specs.Steps.Called.{opened, refused, in-use, split, merge}
+use Rattle.steps.specs.Steps.Called.{opened, refused, in-use, split, merge, pin, unpin}
 use Rattle.steps.specs.Steps.Step.{bad, call}
 use Rattle.steps.specs.Holding.{Holds}
 use Rattle.steps.proofs.Keeping.{holds-none}
@@ -51,16 +53,24 @@ module _ {D : ℕ} {b : List ℕ} (h : Holds D b) where
       go (yes z) = inl z
       go (no z) = inr (omega (arith, leaves-open D b z, two-leaves (panelIn D b) (h .good z)))
 
-  -- a split adds leaves, or is refused
-  split-more : {k n : ℕ} {t : List ℕ} → Split (panelIn D b) k n t → leavesIn D b ≤ leavesIn D (changed D b t)
-  split-more {k} {n} {t} o = go (ℕ-discrete n 0) (ℕ-discrete D 0)
+  -- a call that lowers no count where it is done lowers none
+  change-more : {rows : List Row} {Done : List ℕ → Type 0} {n : ℕ} {t : List ℕ} → Outcome rows (List ℕ) Done (λ x. x ≡ panelIn D b) n t
+      → (n ≡ 0 → Good (panelIn D b) → (leafCount (panelIn D b) ≤ leafCount t) × (length t ≡ length (panelIn D b))) → leavesIn D b ≤ leavesIn D (changed D b t)
+  change-more {n = n} {t = t} o f = go (ℕ-discrete n 0) (ℕ-discrete D 0)
     where
       go : Dec (n ≡ 0) → Dec (D ≡ 0) → leavesIn D b ≤ leavesIn D (changed D b t)
       go (yes a) (yes z) = omega (arith, leaves-none D b z)
       go (yes a) (no z) =
-          let m = split-grows (subst (λ x. Split (panelIn D b) k x t) a o) in
-          omega (arith, m .0, leaves-open D b z, leaves-changed D b t z (o .done a .long ∙ held-length h z))
+          let (m, e) = f a (h .good z) in omega (arith, leaves-open D b z, leaves-changed D b t z (e ∙ held-length h z))
       go (no a) _ = omega (arith, ap (leavesIn D) (same-changed D b t (o .refused a)))
+
+  -- a split adds leaves
+  split-more : {k n : ℕ} {t : List ℕ} → Split (panelIn D b) k n t → leavesIn D b ≤ leavesIn D (changed D b t)
+  split-more {k} {t = t} o = change-more o (λ a _. (omega (arith, split-grows (subst (λ x. Split (panelIn D b) k x t) a o) .0), o .done a .long))
+
+  -- a pin or an unpin leaves them
+  put-more : {k v n : ℕ} {t : List ℕ} → v < 2 → PinPut (panelIn D b) k v n t → leavesIn D b ≤ leavesIn D (changed D b t)
+  put-more l o = change-more o (λ a g. (omega (arith, pinned-count g (put-leaf o a) l (o .done a)), o .done a .long))
 
   called-stays : {k c n E : ℕ} {u : List ℕ} → Called k D b c n E u → D ≢ 0 → E ≢ 0
   called-stays (opened o l) z = opened-deep o
@@ -68,6 +78,8 @@ module _ {D : ℕ} {b : List ℕ} (h : Holds D b) where
   called-stays (in-use f l) z = z
   called-stays (split o) z = z
   called-stays (merge o) z = z
+  called-stays (pin o) z = z
+  called-stays (unpin o) z = z
 
   called-over : {k c n E : ℕ} {u : List ℕ} → Called k D b c n E u → c ≡ 0 → n ≡ 0 → (D ≡ 0) ⊎ (leavesIn D b ≡ 2)
   called-over (opened o l) e a = two-or-none l
@@ -75,6 +87,8 @@ module _ {D : ℕ} {b : List ℕ} (h : Holds D b) where
   called-over (in-use f l) e a = absurd (omega arith)
   called-over (split o) e a = absurd (omega arith)
   called-over (merge o) e a = absurd (omega arith)
+  called-over (pin o) e a = absurd (omega arith)
+  called-over (unpin o) e a = absurd (omega arith)
 
   called-grows : {k c n E : ℕ} {u : List ℕ} → Called k D b c n E u → (c ≡ 2 → n ≢ 0) → leavesIn D b ≤ leavesIn E u
   called-grows (opened o l) m = omega (arith, opened-leaves b o)
@@ -82,6 +96,8 @@ module _ {D : ℕ} {b : List ℕ} (h : Holds D b) where
   called-grows (in-use f l) m = omega arith
   called-grows (split o) m = split-more o
   called-grows (merge {t = t} o) m = omega (arith, ap (leavesIn D) (same-changed D b t (o .refused (m refl))))
+  called-grows (pin o) m = put-more (omega arith) o
+  called-grows (unpin o) m = put-more (omega arith) o
 
   step-keeps-scan : {r u : List ℕ} {n E : ℕ} → Step r D b n E u → ScanKept r D b n E u
   step-keeps-scan (bad f) = record { stays = λ z. z; over = λ g. absurd (f g); grows = λ m. omega arith }

@@ -17,6 +17,7 @@ use Rattle.tables.proofs.Tables.{says-no}
 use Rattle.words.specs.Words.{word, leafBit}
 use Rattle.sums.specs.Sums.{SumsRight, Right}
 use Rattle.cuts.specs.Cuts.{Cut, GoodCuts, Leaf}
+use Rattle.pins.specs.Pins.{pinBit, PinsOnLeaves}
 use Rattle.panel.specs.Panels.{sizeOf, Fits, deepOf, RightLength, CutOf, Good}
 use Rattle.cuts.proofs.Places.{cutPlace, cut-low, cut-depth, cut-range, cut-set}
 use Rattle.cuts.proofs.Naming.{placed}
@@ -118,11 +119,18 @@ cutOf s = cutIn (deepOf s) (leafBit (deepOf s) s)
 pub decided : {s : List ℕ} → RightLength s → Decided (2 ^ deepOf s) (CutOf s) (cutOf s)
 decided {s} r = decided-cuts (deepOf s) (leafBit (deepOf s) s) (fits-small r)
 
+unfoldable pub pinsIn : ℕ → List ℕ → Bool
+pinsIn D s = upTo (2 ^ D) (λ p. leb (pinBit D s p) (leafBit D s p))
+
+pins-shown : (D : ℕ) (s : List ℕ) → So (pinsIn D s) → PinsOnLeaves D s
+unfolding pinsIn
+pins-shown D s = shows-all (2 ^ D) (λ p. leb-true (pinBit D s p) (leafBit D s p))
+
 unfoldable pub goodPanel : List ℕ → Bool
-goodPanel s = fitsIn s (deepOf s) && rightIn (deepOf s) s && eqb (leafBit (deepOf s) s 0) 1 && goodIn (2 ^ deepOf s) (cutOf s)
+goodPanel s = fitsIn s (deepOf s) && rightIn (deepOf s) s && eqb (leafBit (deepOf s) s 0) 1 && goodIn (2 ^ deepOf s) (cutOf s) && pinsIn (deepOf s) s
 
 pub good-shown : (s : List ℕ) → So (goodPanel s) → Good s
 unfolding goodPanel
 good-shown s e =
-    let (((f, r), b), c) = (fits-shown s (deepOf s) and right-shown (deepOf s) s and eqb-true (leafBit (deepOf s) s 0) 1 and (λ x. x)) e in
-    record { fits = f; right = r; first = b; cuts = good-cuts (decided f) c }
+    let ((((f, r), b), c), p) = (fits-shown s (deepOf s) and right-shown (deepOf s) s and eqb-true (leafBit (deepOf s) s 0) 1 and (λ x. x) and pins-shown (deepOf s) s) e in
+    record { fits = f; right = r; first = b; cuts = good-cuts (decided f) c; pins = p }

@@ -1,4 +1,4 @@
--- The cases of "Known panels" that are marked [M], and some of 02, W4 and W6: requests and what is expected of them, as data, and what it is for a case to hold.
+-- The cases of "Known panels" that are marked [M], with pins zero, and some of 02, W4, W6 and W7: requests and what is expected of them, as data, and what it is for a case to hold.
 use mathlib.Core.Path.{_≡_}
 use mathlib.Core.List.{List, [], _∷_}
 use Prim.Native.Nat.{ℕ, suc}
@@ -6,7 +6,7 @@ use lib.ListN.{length}
 use Rattle.nodes.specs.declared.triples.Triple.{Triple}
 use Rattle.triangles.specs.Corners.{Triangle, point, triangle}
 use Rattle.node_calls.specs.Calls.{Neighbours, Corners}
-use Rattle.panel.specs.Calls.{Judged, Count, LeafAt, Ancestor, NumberOf, Open, Split, Merge}
+use Rattle.panel.specs.Calls.{Judged, Count, LeafAt, Ancestor, NumberOf, PinOf, Open, Split, Merge, Pin, Unpin}
 
 -- ---- what a case is
 
@@ -16,9 +16,11 @@ pub data Case : Type 0 where
   judged : (panel leaves : List ℕ) → Case
   -- open of depth D is done, and writes the panel
   opens : (D : ℕ) (panel leaves : List ℕ) → Case
-  -- split, or merge, of node k
-  splits merges : (before : List ℕ) (k answer : ℕ) (after leaves : List ℕ) → Case
-  -- split, merge and number of leaf are refused node k, with an ancestor or 0 beside
+  -- split, merge, pin or unpin of node k
+  splits merges pins unpins : (before : List ℕ) (k answer : ℕ) (after leaves : List ℕ) → Case
+  -- the pin of leaf k is v
+  pinned : (panel : List ℕ) (k v : ℕ) → Case
+  -- all calls that take a leaf are refused node k, with an ancestor or 0 beside
   refused : (panel : List ℕ) (k answer ancestor : ℕ) → Case
   neighbours : (n left right edge : ℕ) → Case
   corners : (n : ℕ) (points : Triangle) → Case
@@ -33,11 +35,14 @@ LeavesFrom t i (k ∷ ks) = LeafAt t i 0 k × LeavesFrom t (suc i) ks
 abbrev pub Leaves : List ℕ → List ℕ → Type 0
 Leaves t ks = LeavesFrom t 0 ks
 
--- all three calls that take a leaf refuse node k
+-- all calls that take a leaf refuse node k
 pub record Refused (s : List ℕ) (k n a : ℕ) : Type 0 where
   pub split : Split s k n s
   pub merge : Merge s k n s
   pub number-of : NumberOf s k n 0
+  pub pin : Pin s k n s
+  pub unpin : Unpin s k n s
+  pub pin-of : PinOf s k n 0
   pub ancestor : Ancestor s k n a
 
 abbrev pub around : ℕ → ℕ → ℕ → Triple
@@ -49,6 +54,9 @@ Holds (judged t ks) = Judged t 0 × Leaves t ks
 Holds (opens D t ks) = ((s : List ℕ) → length s ≡ length t → Open s D 0 t) × Leaves t ks
 Holds (splits s k n t ks) = Split s k n t × Leaves t ks
 Holds (merges s k n t ks) = Merge s k n t × Leaves t ks
+Holds (pins s k n t ks) = Pin s k n t × Leaves t ks
+Holds (unpins s k n t ks) = Unpin s k n t × Leaves t ks
+Holds (pinned s k v) = PinOf s k 0 v
 Holds (refused s k n a) = Refused s k n a
 Holds (neighbours n l r e) = Neighbours n 0 (around l r e)
 Holds (corners n t) = Corners n 0 t
@@ -59,45 +67,64 @@ Every (c ∷ cs) = Holds c × Every cs
 
 -- ---- the cases
 
--- at D = 3
-abbrev pub opened : List ℕ
-opened = 0x8C ∷ 0x24 ∷ 0x11 ∷ 0x11 ∷ []
+-- at D = 3: the words, and the byte of pins
+abbrev pub opened : ℕ → List ℕ
+opened pin = 0x8C ∷ 0x24 ∷ 0x11 ∷ 0x11 ∷ pin ∷ []
 
-abbrev pub fourLeaves : List ℕ
-fourLeaves = 0x0C ∷ 0x49 ∷ 0x55 ∷ 0x55 ∷ []
+abbrev pub fourLeaves : ℕ → List ℕ
+fourLeaves pin = 0x0C ∷ 0x49 ∷ 0x55 ∷ 0x55 ∷ pin ∷ []
 
-abbrev pub fiveLeaves : List ℕ
-fiveLeaves = 0x4C ∷ 0x4D ∷ 0x56 ∷ 0x57 ∷ []
+abbrev pub fiveLeaves : ℕ → List ℕ
+fiveLeaves pin = 0x4C ∷ 0x4D ∷ 0x56 ∷ 0x57 ∷ pin ∷ []
 
-abbrev pub allCut : List ℕ
-allCut = 0x0C ∷ 0x92 ∷ 0xAA ∷ 0xFF ∷ []
+abbrev pub allCut : ℕ → List ℕ
+allCut pin = 0x0C ∷ 0x92 ∷ 0xAA ∷ 0xFF ∷ pin ∷ []
 
--- at D = 4
-abbrev pub fiveDeeper : List ℕ
-fiveDeeper = 0x90 ∷ 0x32 ∷ 0xA2 ∷ 0x24 ∷ 0x15 ∷ 0x11 ∷ 0x15 ∷ 0x11 ∷ []
+-- at D = 4, with two bytes of pins
+abbrev pub fiveDeeper : ℕ → List ℕ
+fiveDeeper pin = 0x90 ∷ 0x32 ∷ 0xA2 ∷ 0x24 ∷ 0x15 ∷ 0x11 ∷ 0x15 ∷ 0x11 ∷ 0 ∷ pin ∷ []
 
-abbrev pub eightDeeper : List ℕ
-eightDeeper = 0x10 ∷ 0x44 ∷ 0xB4 ∷ 0x64 ∷ 0x16 ∷ 0x91 ∷ 0x17 ∷ 0xD1 ∷ []
+abbrev pub eightDeeper : ℕ → List ℕ
+eightDeeper pin = 0x10 ∷ 0x44 ∷ 0xB4 ∷ 0x64 ∷ 0x16 ∷ 0x91 ∷ 0x17 ∷ 0xD1 ∷ 0 ∷ pin ∷ []
+
+-- leaf 5 is pinned, also where it is, and the pin taken back; a pin passes to both children, where the cut was asked for, where it was forced, and through two cuts;
+-- merges that meet a pin on their own side and on the other, that lack leaves first, and that leave another's pin
+abbrev pub pinCases : List Case
+pinCases =
+    pins (fourLeaves 0) 5 0 (fourLeaves 0x04) (4 ∷ 5 ∷ 6 ∷ 7 ∷ [])
+    ∷ pins (fourLeaves 0x44) 5 0 (fourLeaves 0x44) (4 ∷ 5 ∷ 6 ∷ 7 ∷ [])
+    ∷ unpins (fourLeaves 0x44) 5 0 (fourLeaves 0x40) (4 ∷ 5 ∷ 6 ∷ 7 ∷ [])
+    ∷ unpins (fourLeaves 0x40) 5 0 (fourLeaves 0x40) (4 ∷ 5 ∷ 6 ∷ 7 ∷ [])
+    ∷ pinned (fourLeaves 0x44) 5 1
+    ∷ pinned (fourLeaves 0x44) 6 0
+    ∷ splits (opened 0x01) 2 0 (fourLeaves 0x05) (4 ∷ 5 ∷ 6 ∷ 7 ∷ [])
+    ∷ splits (opened 0x10) 2 0 (fourLeaves 0x50) (4 ∷ 5 ∷ 6 ∷ 7 ∷ [])
+    ∷ splits (fiveDeeper 0x10) 8 0 (eightDeeper 0xD0) (16 ∷ 17 ∷ 9 ∷ 5 ∷ 6 ∷ 14 ∷ 30 ∷ 31 ∷ [])
+    ∷ merges (fourLeaves 0x04) 5 11 (fourLeaves 0x04) (4 ∷ 5 ∷ 6 ∷ 7 ∷ [])
+    ∷ merges (fourLeaves 0x40) 5 11 (fourLeaves 0x40) (4 ∷ 5 ∷ 6 ∷ 7 ∷ [])
+    ∷ merges (fiveLeaves 0x04) 5 7 (fiveLeaves 0x04) (8 ∷ 9 ∷ 5 ∷ 6 ∷ 7 ∷ [])
+    ∷ merges (fiveLeaves 0x10) 9 0 (fourLeaves 0x10) (4 ∷ 5 ∷ 6 ∷ 7 ∷ [])
+    ∷ []
 
 -- open 3, then split 2, then split 4; all cut; split 8 at D = 4; three merges; nodes that are cut, and below a leaf; neighbours; corners
 abbrev pub knownCases : List Case
 knownCases =
-    opens 3 opened (2 ∷ 3 ∷ [])
-    ∷ splits opened 2 0 fourLeaves (4 ∷ 5 ∷ 6 ∷ 7 ∷ [])
-    ∷ splits fourLeaves 4 0 fiveLeaves (8 ∷ 9 ∷ 5 ∷ 6 ∷ 7 ∷ [])
-    ∷ judged allCut (8 ∷ 9 ∷ 10 ∷ 11 ∷ 12 ∷ 13 ∷ 14 ∷ 15 ∷ [])
-    ∷ judged fiveDeeper (8 ∷ 9 ∷ 5 ∷ 6 ∷ 7 ∷ [])
-    ∷ splits fiveDeeper 8 0 eightDeeper (16 ∷ 17 ∷ 9 ∷ 5 ∷ 6 ∷ 14 ∷ 30 ∷ 31 ∷ [])
-    ∷ merges fourLeaves 5 0 opened (2 ∷ 3 ∷ [])
-    ∷ merges fiveLeaves 5 7 fiveLeaves (8 ∷ 9 ∷ 5 ∷ 6 ∷ 7 ∷ [])
-    ∷ merges fiveLeaves 9 0 fourLeaves (4 ∷ 5 ∷ 6 ∷ 7 ∷ [])
-    ∷ refused fourLeaves 2 4 0
-    ∷ refused fourLeaves 8 10 4
-    ∷ refused opened 15 10 3
-    ∷ refused fiveDeeper 23 10 5
+    opens 3 (opened 0) (2 ∷ 3 ∷ [])
+    ∷ splits (opened 0) 2 0 (fourLeaves 0) (4 ∷ 5 ∷ 6 ∷ 7 ∷ [])
+    ∷ splits (fourLeaves 0) 4 0 (fiveLeaves 0) (8 ∷ 9 ∷ 5 ∷ 6 ∷ 7 ∷ [])
+    ∷ judged (allCut 0) (8 ∷ 9 ∷ 10 ∷ 11 ∷ 12 ∷ 13 ∷ 14 ∷ 15 ∷ [])
+    ∷ judged (fiveDeeper 0) (8 ∷ 9 ∷ 5 ∷ 6 ∷ 7 ∷ [])
+    ∷ splits (fiveDeeper 0) 8 0 (eightDeeper 0) (16 ∷ 17 ∷ 9 ∷ 5 ∷ 6 ∷ 14 ∷ 30 ∷ 31 ∷ [])
+    ∷ merges (fourLeaves 0) 5 0 (opened 0) (2 ∷ 3 ∷ [])
+    ∷ merges (fiveLeaves 0) 5 7 (fiveLeaves 0) (8 ∷ 9 ∷ 5 ∷ 6 ∷ 7 ∷ [])
+    ∷ merges (fiveLeaves 0) 9 0 (fourLeaves 0) (4 ∷ 5 ∷ 6 ∷ 7 ∷ [])
+    ∷ refused (fourLeaves 0) 2 4 0
+    ∷ refused (fourLeaves 0) 8 10 4
+    ∷ refused (opened 0) 15 10 3
+    ∷ refused (fiveDeeper 0) 23 10 5
     ∷ neighbours 8 9 0 15
     ∷ neighbours 10 11 0 9
     ∷ neighbours 17 30 16 18
     ∷ corners 10 (triangle (point 0 0) (point 128 0) (point 128 128))
     ∷ corners 4 (triangle (point 0 0) (point 128 128) (point 0 256))
-    ∷ []
+    ∷ pinCases

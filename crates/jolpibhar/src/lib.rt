@@ -1,7 +1,7 @@
 // The calls for C and Rust on a panel: numbers and lent bytes only, the answer's number returned. Each promises what the call behind it does.
 use nodes::LeafNumber;
 use nodes::Node;
-ghost use Rattle.panel.specs.Calls.{Open, Judged, Count, LeafAt, Ancestor, NumberOf, Split, Merge};
+ghost use Rattle.panel.specs.Calls.{Open, Judged, Count, LeafAt, Ancestor, NumberOf, PinOf, Split, Merge, Pin, Unpin};
 ghost use Rattle.jolpibhar.specs.Parts.{LeafBytes};
 
 // Opens the panel: writes every byte of it, or refuses with 1 and writes none.
@@ -52,6 +52,18 @@ pub extern "C" fn panel_number(panel: &[u8], node: u32, number: &mut u32, ancest
     numbered.number()
 }
 
+// Whether a leaf is pinned, 1 or 0, and beside 10 the leaf above the node.
+#[no_mangle]
+pub extern "C" fn panel_pinned(panel: &[u8], node: u32, pinned: &mut u32, ancestor: &mut u32) -> u32
+    ensures { λ r. ⌜ PinOf (now (panel .entry)) node r (now (pinned .exit)) ⌝ }
+    ensures { λ r. ⌜ Ancestor (now (panel .entry)) node r (now (ancestor .exit)) ⌝ }
+{
+    let told = calls::pinned(panel, Node(node));
+    *pinned = told.bit();
+    *ancestor = told.ancestor();
+    told.number()
+}
+
 // Which bytes of the panel the leaf bits fill: the place of the first, and how many.
 #[no_mangle]
 pub extern "C" fn panel_leaf_bits(panel: &[u8], start: &mut usize, size: &mut usize) -> u32
@@ -85,4 +97,26 @@ pub extern "C" fn panel_merge(panel: &mut [u8], node: u32, ancestor: &mut u32) -
     let merged = calls::merge(panel, Node(node));
     *ancestor = merged.ancestor();
     merged.number()
+}
+
+// Pins a leaf, or refuses and writes no byte of the panel; beside 10 the leaf above the node.
+#[no_mangle]
+pub extern "C" fn panel_pin(panel: &mut [u8], node: u32, ancestor: &mut u32) -> u32
+    ensures { λ r. ⌜ Pin (now (panel .entry)) node r (now (panel .exit)) ⌝ }
+    ensures { λ r. ⌜ Ancestor (now (panel .entry)) node r (now (ancestor .exit)) ⌝ }
+{
+    let pinned = calls::pin(panel, Node(node));
+    *ancestor = pinned.ancestor();
+    pinned.number()
+}
+
+// Takes a leaf's pin back, or refuses and writes no byte of the panel; beside 10 the leaf above the node.
+#[no_mangle]
+pub extern "C" fn panel_unpin(panel: &mut [u8], node: u32, ancestor: &mut u32) -> u32
+    ensures { λ r. ⌜ Unpin (now (panel .entry)) node r (now (panel .exit)) ⌝ }
+    ensures { λ r. ⌜ Ancestor (now (panel .entry)) node r (now (ancestor .exit)) ⌝ }
+{
+    let unpinned = calls::unpin(panel, Node(node));
+    *ancestor = unpinned.ancestor();
+    unpinned.number()
 }

@@ -1,4 +1,4 @@
--- Zero bytes with the depth word, leaf bits 0 and 2 ^ (D - 1), and right sums: the good panel whose only cut is node 1.
+-- Zero bytes with the depth word, leaf bits 0 and 2 ^ (D - 1), and right sums: the good panel whose only cut is node 1, with no pin.
 use mathlib.Core.Path.{_≡_, refl, sym, ap, _∙_, subst}
 use mathlib.Core.Logic.{_≢_, _↔_, inl, inr}
 use mathlib.Core.List.{List}
@@ -19,6 +19,8 @@ use Rattle.words.proofs.Slots.{wide, packed, from-zero, from-one, word-put-same
 use Rattle.words.proofs.Leaves.{length-put-leaf, leaf-put-same, leaf-put-other, bit-put-leaf, word-put-leaf}
 use Rattle.sums.proofs.Unique.{summed-leaf, summed-right}
 use Rattle.cuts.specs.Cuts.{named, Cut, GoodCuts}
+use Rattle.pins.specs.Pins.{pinBit, PinsOnLeaves}
+use Rattle.pins.proofs.PinBits.{pin-put-leaf, summed-pin}
 use Rattle.panel.specs.Panels.{Fits, deepOf}
 use Rattle.panel.specs.Calls.{Fresh}
 use Rattle.cuts.specs.inner.Steps.{CutPlace}
@@ -126,6 +128,14 @@ module _ {D : ℕ} {s z : List ℕ} (F : Fits s D) (C : Cleared s z) where
       ∙ word-put-leaf D headed 0 1 (omega arith) 0 (pow-pos D) (pow-pos D)
       ∙ word-put-same D z 0 D (pow-pos (D + 1)) (depth-fits D) (room .long)
 
+  pin-zero : (p : ℕ) → pinBit D halved p ≡ 0
+  unfolding pinBit
+  pin-zero p =
+      pin-put-leaf D started (2 ^ (D - 1)) 1 (omega arith) (omega (arith, half, pow-pos (D - 1))) p
+      ∙ pin-put-leaf D headed 0 1 (omega arith) (pow-pos D) p
+      ∙ bit-put-word D z 0 D (4 * 2 ^ D + p) (inr (omega (arith, head-end, from-zero D, small D, pow-next D, pow-pos D)))
+      ∙ bit-zero (4 * 2 ^ D + p)
+
   pub fresh : {t : List ℕ} → Summed D halved t → Fresh D t
   fresh {t} S = record {
     good = record {
@@ -133,9 +143,11 @@ module _ {D : ℕ} {s z : List ℕ} (F : Fits s D) (C : Cleared s z) where
       right = subst (λ d. Right d t) (sym deep) (summed-right S (spare 0 (omega arith)) (spare 1 (omega arith)) depth-word);
       first = subst (λ d. leafBit d t 0 ≡ 1) (sym deep) (summed-leaf S 0 ∙ leaf-start);
       cuts = subst (λ d. GoodCuts (Cut d (leafBit d t))) (sym deep) (root-good D (leafBit D t) (omega (arith, F .low)) (fits-small F) one none);
+      pins = subst (λ d. PinsOnLeaves d t) (sym deep) (λ p h. omega (arith, unpinned p));
     };
     deep = deep;
     cuts = subst (λ d. (n : ℕ) → Cut d (leafBit d t) n ↔ (n ≡ 1)) (sym deep) (only-root D (leafBit D t) (omega (arith, F .low)) (fits-small F) one none);
+    pins = λ p h. unpinned p;
   }
     where
       fits-t : Fits t D
@@ -149,3 +161,6 @@ module _ {D : ℕ} {s z : List ℕ} (F : Fits s D) (C : Cleared s z) where
 
       none : (p : ℕ) → p ≢ 0 → p ≢ 2 ^ (D - 1) → leafBit D t p ≡ 0
       none p a b = summed-leaf S p ∙ leaf-other p a b
+
+      unpinned : (p : ℕ) → pinBit D t p ≡ 0
+      unpinned p = summed-pin S p ∙ pin-zero p

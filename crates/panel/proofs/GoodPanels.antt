@@ -1,6 +1,6 @@
 -- The laws of leaf bits, told of a good panel and its words: a word counts the leaf bits set below its node.
 use mathlib.Core.Path.{_≡_, sym, ap, _∙_, subst}
-use mathlib.Core.Logic.{_⊎_, _↔_}
+use mathlib.Core.Logic.{_⊎_, inl, inr, _↔_}
 use mathlib.Core.List.{List}
 use Prim.Native.Nat.{ℕ, suc, _+_, _-_, _*_, _/_, _^_, _≤_, _<_}
 use native.Mathlib.Omega.{arith}
@@ -42,6 +42,15 @@ module _ (s : List ℕ) (G : Good s) where
   -- a node from 2 up is a leaf, or is itself cut, or lies below a leaf
   pub one-of-three : (k : ℕ) → 2 ≤ k → LeafOf s k ⊎ (CutOf s k ⊎ BelowLeaf s k)
   one-of-three = covering.one-of-three (G .cuts) (dec-cuts G)
+
+  -- a leaf of a panel with more cuts is a leaf of this one, or lies in one
+  pub leaf-before : (t : List ℕ) → ((n : ℕ) → CutOf s n → CutOf t n) → (m : ℕ) → LeafOf t m → (j : ℕ) × LeafOf s (m / 2 ^ j)
+  leaf-before t more m l = go (one-of-three m (l .low))
+    where
+      go : LeafOf s m ⊎ (CutOf s m ⊎ BelowLeaf s m) → (j : ℕ) × LeafOf s (m / 2 ^ j)
+      go (inl k) = (0, subst (LeafOf s) (let e : m ≡ m / 2 ^ 0 = omega arith in e) k)
+      go (inr (inl c)) = absurd (l .uncut (more m c))
+      go (inr (inr (a, b))) = (b .levels, subst (LeafOf s) (sym (b .ancestor)) (b .leaf))
 
   -- node 1 and its children are in every panel
   first-three : (n : ℕ) → n < 4 → n < 2 ^ (deepOf s + 1)

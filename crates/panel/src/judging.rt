@@ -1,4 +1,4 @@
-// Judging a lent panel: its length, its words, its cuts.
+// Judging a lent panel: its length, its words, its cuts, its pins.
 use crate::sizes::GREATEST_SIZE;
 use crate::sizes::size;
 use answers::Answer;
@@ -43,7 +43,9 @@ pub fn good_depth(panel: &[u8]) -> Judgement
     if testing::all_right(panel, deep) {
         if words::leaf_bit(panel, deep, 0) == 1 {
             if goodcuts::cuts_good(panel, deep) {
-                return Judgement::Good(deep);
+                if pins::pins_on_leaves(panel, deep) {
+                    return Judgement::Good(deep);
+                }
             }
         }
     }

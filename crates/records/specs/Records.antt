@@ -1,4 +1,4 @@
--- Request records of eight bytes, by "The request file".
+-- Request records of eight bytes, by "The request file" and 02, W7.
 use mathlib.Core.Path.{_≡_}
 use mathlib.Core.Bool.{Bool, true, false}
 use mathlib.Core.List.{List}
@@ -6,7 +6,7 @@ use Prim.Native.Nat.{ℕ, _+_, _*_, _/_, _≤_, min}
 use lib.ListN.{length, getD, take, drop}
 use Rattle.bits.specs.Little.{little}
 
--- kind (0 open, 1 split, 2 merge)
+-- kind (0 open, 1 split, 2 merge, 3 pin, 4 unpin)
 abbrev pub kind : List ℕ → ℕ
 kind r = getD r 0 0
 
@@ -14,10 +14,10 @@ kind r = getD r 0 0
 abbrev pub number : List ℕ → ℕ
 number r = little r 4 4
 
--- a record that isn't bad: it is whole, its kind isn't above 2, its three spare bytes are zero
+-- a record that isn't bad: it is whole, its kind isn't above 4, its three spare bytes are zero
 pub record Fine (r : List ℕ) : Type 0 where
   pub whole : length r ≡ 8
-  pub kinds : kind r ≤ 2
+  pub kinds : kind r ≤ 4
   pub spare-1 : getD r 1 0 ≡ 0
   pub spare-2 : getD r 2 0 ≡ 0
   pub spare-3 : getD r 3 0 ≡ 0

@@ -15,7 +15,7 @@ pub fn fine(request: &[u8]) -> bool
     if request.len() != 8 {
         return false;
     }
-    if 2 < request[0] {
+    if 4 < request[0] {
         return false;
     }
     if request[1] != 0 {

@@ -14,6 +14,9 @@ ghost use Rattle.printing.specs.Printing.{lineCount, Lines};
 // The bytes of a part: 512 records.
 const PART: usize = 8 * 512;
 
+// The bytes of the buffer for the panel. One of depth 16 has room in it, and one of depth 17 does not.
+const BUFFER: usize = 65536;
+
 // Reads the input part by part, to its end or to the limit of records, and works through it.
 fn scan(buffer: &mut [u8], answers: &mut [u8]) -> Ran
     requires { ⌜ mostRecords ≤ length (now answers) ⌝ }
@@ -65,7 +68,7 @@ fn print(answers: &[u8], buffer: &[u8], deep: usize) -> usize
 }
 
 fn main() {
-    let mut buffer = [0u8; panel::GREATEST_SIZE];
+    let mut buffer = [0u8; BUFFER];
     let mut answers = [0u8; records::MOST_RECORDS];
     let ran = scan(&mut buffer, &mut answers);
     let count = ran.count;

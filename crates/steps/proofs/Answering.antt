@@ -7,14 +7,14 @@ use native.Mathlib.Omega.{arith}
 use lib.ListN.{length, take, drop}
 use Rattle.tables.proofs.Tables.{is-done, is-refused}
 use Rattle.panel.specs.Panels.{sizeOf, Fits, deepOf, Good}
-use Rattle.panel.specs.Calls.{Fresh, Split, Merge}
+use Rattle.panel.specs.Calls.{Fresh, Split, Merge, Pin, Unpin}
 use Rattle.panel.proofs.Lengths.{fits-small}
 use Rattle.records.specs.Records.{kind, number, Fine}
 use Rattle.steps.specs.Steps.{panelIn, changed, leavesIn, Called, Step}
-use Rattle.steps.specs.Steps.Called.{opened, refused, split, merge}
+use Rattle.steps.specs.Steps.Called.{opened, refused, split, merge, pin, unpin}
 use Rattle.steps.specs.Steps.Step.{call}
 use Rattle.steps.specs.inner.Changing.{Change}
-use Rattle.steps.specs.inner.Changing.Change.{split as splits, merge as merges}
+use Rattle.steps.specs.inner.Changing.Change.{split as splits, merge as merges, pin as pins, unpin as unpins}
 use Rattle.steps.specs.Holding.{Holds}
 use Rattle.steps.proofs.Parts.{inside, none-right, held-fits}
 
@@ -33,7 +33,7 @@ pub open-done : {k D n : ℕ} {b t : List ℕ} → n ≡ sizeOf k → Fits (pane
 open-done {k} {D} {b = b} {t = t} e f l q =
     subst (λ x. Called k D b 0 0 k (t ++ drop x b)) (sym e) (opened (is-done (inr (f, refl)) q) l)
 
--- ---- split and merge
+-- ---- the calls that change the open panel
 
 pub kind-split : {s t : List ℕ} {k c n : ℕ} → c ≡ 1 → Split s k n t → Change s k c n t
 kind-split {s} {t} {k} {n = n} e p = subst (λ x. Change s k x n t) (sym e) (splits p)
@@ -41,18 +41,28 @@ kind-split {s} {t} {k} {n = n} e p = subst (λ x. Change s k x n t) (sym e) (spl
 pub kind-merge : {s t : List ℕ} {k c n : ℕ} → c ≡ 2 → Merge s k n t → Change s k c n t
 kind-merge {s} {t} {k} {n = n} e p = subst (λ x. Change s k x n t) (sym e) (merges p)
 
+pub kind-pin : {s t : List ℕ} {k c n : ℕ} → c ≡ 3 → Pin s k n t → Change s k c n t
+kind-pin {s} {t} {k} {n = n} e p = subst (λ x. Change s k x n t) (sym e) (pins p)
+
+pub kind-unpin : {s t : List ℕ} {k c n : ℕ} → c ≡ 4 → Unpin s k n t → Change s k c n t
+kind-unpin {s} {t} {k} {n = n} e p = subst (λ x. Change s k x n t) (sym e) (unpins p)
+
 called-change : {k D c m : ℕ} {b t : List ℕ} → Change (panelIn D b) k c m t → Called k D b c m D (changed D b t)
 called-change (splits p) = split p
 called-change (merges p) = merge p
+called-change (pins p) = pin p
+called-change (unpins p) = unpin p
 
 -- no panel is open, and no bytes have no right length
-none-change : (c k : ℕ) → 1 ≤ c → c ≤ 2 → Change [] k c 1 []
+none-change : (c k : ℕ) → 1 ≤ c → c ≤ 4 → Change [] k c 1 []
 none-change zero k l h = absurd (omega arith)
 none-change (suc zero) k l h = splits (is-refused (λ y. omega arith) (inl (none-right, refl)) refl)
 none-change (suc (suc zero)) k l h = merges (is-refused (λ y. omega arith) (inl (none-right, refl)) refl)
-none-change (suc (suc (suc c))) k l h = absurd (omega arith)
+none-change (suc (suc (suc zero))) k l h = pins (is-refused (λ y. omega arith) (inl (none-right, refl)) refl)
+none-change (suc (suc (suc (suc zero)))) k l h = unpins (is-refused (λ y. omega arith) (inl (none-right, refl)) refl)
+none-change (suc (suc (suc (suc (suc c))))) k l h = absurd (omega arith)
 
-pub none-called : (c k D : ℕ) (b : List ℕ) → 1 ≤ c → c ≤ 2 → D ≡ 0 → Called k D b c 1 D b
+pub none-called : (c k D : ℕ) (b : List ℕ) → 1 ≤ c → c ≤ 4 → D ≡ 0 → Called k D b c 1 D b
 none-called c k D b l h e = subst (λ x. Called k x b c 1 x b) (sym e) (called-change (none-change c k l h))
 
 -- the part that is lent is the panel's

@@ -9,9 +9,10 @@ use lib.ListN.{length}
 use Rattle.nodes.specs.Depth.{depthOf}
 use Rattle.tables.specs.Table.{Row, Outcome}
 use Rattle.panel.specs.Panels.{sizeOf, Fits, deepOf, Good}
+use Rattle.panel.proofs.Pinning.{put-stays}
 use Rattle.records.specs.Records.{kind, number, Fine}
 use Rattle.steps.specs.Steps.{panelIn, changed, Called, Step}
-use Rattle.steps.specs.Steps.Called.{opened, refused, in-use, split, merge}
+use Rattle.steps.specs.Steps.Called.{opened, refused, in-use, split, merge, pin, unpin}
 use Rattle.steps.specs.Steps.Step.{bad, call}
 use Rattle.steps.specs.Holding.{Holds}
 use Rattle.steps.proofs.Exactness.{open-answers}
@@ -25,6 +26,8 @@ called-refused (refused p z) _ = (refl, refl)
 called-refused (in-use f l) _ = (refl, refl)
 called-refused {D = D} {b = b} (split {t = t} p) z = (refl, same-changed D b t (p .refused z))
 called-refused {D = D} {b = b} (merge {t = t} p) z = (refl, same-changed D b t (p .refused z))
+called-refused {D = D} {b = b} (pin {t = t} p) z = (refl, same-changed D b t (p .refused z))
+called-refused {D = D} {b = b} (unpin {t = t} p) z = (refl, same-changed D b t (p .refused z))
 
 -- a refused record keeps the panel before it, and every byte of the buffer
 pub step-refused : {r b u : List ℕ} {D n E : ℕ} → Step r D b n E u → n ≢ 0 → (E ≡ D) × (u ≡ b)
@@ -66,6 +69,8 @@ called-holds h (refused p z) = h
 called-holds h (in-use f l) = h
 called-holds h (split {t = t} p) = held-changed t h (λ g. stays g (λ d. (d .good, d .long)) p)
 called-holds h (merge {t = t} p) = held-changed t h (λ g. stays g (λ d. (d .good, d .long)) p)
+called-holds h (pin {t = t} p) = held-changed t h (λ g. put-stays (omega arith) g p)
+called-holds h (unpin {t = t} p) = held-changed t h (λ g. put-stays (omega arith) g p)
 
 pub step-holds : {r b u : List ℕ} {D n E : ℕ} → Holds D b → Step r D b n E u → Holds E u
 step-holds h (bad f) = h
@@ -83,13 +88,15 @@ short-refused {k} {b = b} p h = open-refused p (no-room k b h)
 
 -- ---- where no panel is open
 
--- split and merge answer 1
+-- all but an open answer 1
 called-none : {k c n E : ℕ} {b u : List ℕ} → Called k 0 b c n E u → c ≢ 0 → n ≡ 1
 called-none (opened p l) z = absurd (z refl)
 called-none (refused p y) z = absurd (z refl)
 called-none (in-use f l) z = absurd (z refl)
 called-none (split p) z = ⊎-elim (λ a. a .1) (λ a. absurd (none-right (a .0))) (p .answer)
 called-none (merge p) z = ⊎-elim (λ a. a .1) (λ a. absurd (none-right (a .0))) (p .answer)
+called-none (pin p) z = ⊎-elim (λ a. a .1) (λ a. absurd (none-right (a .0))) (p .answer)
+called-none (unpin p) z = ⊎-elim (λ a. a .1) (λ a. absurd (none-right (a .0))) (p .answer)
 
 -- a record that is no accepted open is refused ..
 pub step-none : {r b u : List ℕ} {n E : ℕ} → Step r 0 b n E u → (Fine r → kind r ≡ 0 → n ≢ 0) → n ≢ 0
@@ -100,7 +107,7 @@ step-none {r} {n = n} (call f p) h = go (ℕ-discrete (kind r) 0)
     go (yes e) = h f e
     go (no z) = λ e. omega (arith, called-none p z)
 
--- .. with 1, where it asks for a split or a merge
+-- .. with 1, where it asks for no open
 pub step-first : {r b u : List ℕ} {D n E : ℕ} → D ≡ 0 → Step r D b n E u → Fine r → kind r ≢ 0 → n ≡ 1
 step-first e (bad g) f z = absurd (g f)
 step-first {r} {b} {u} {n = n} {E = E} e (call g p) f z =

@@ -7,9 +7,9 @@ use lib.ListN.{drop}
 use Rattle.bits.specs.Bits.{Bytes}
 use Rattle.tables.proofs.Tables.{answers-one}
 use Rattle.panel.specs.Panels.{sizeOf}
-use Rattle.panel.proofs.Once.{open-one, split-one, merge-one}
+use Rattle.panel.proofs.Once.{open-one, split-one, merge-one, pin-put-one}
 use Rattle.steps.specs.Steps.{panelIn, changed, Called, Step}
-use Rattle.steps.specs.Steps.Called.{opened, refused, in-use, split, merge}
+use Rattle.steps.specs.Steps.Called.{opened, refused, in-use, split, merge, pin, unpin}
 use Rattle.steps.specs.Steps.Step.{bad, call}
 use Rattle.steps.proofs.Exactness.{openRows, open-answers}
 use Rattle.steps.proofs.Parts.{bytes-front}
@@ -39,6 +39,10 @@ called-one {k} {D} {c = suc c} {b = b} x y (split {n = n} {t = t} p) (split {n =
     let e = split-one (panelIn D b) k n m t w (front D b t x) (front D b w y) p q in (e .0, refl, ap (changed D b) (e .1))
 called-one {k} {D} {c = suc c} {b = b} x y (merge {n = n} {t = t} p) (merge {n = m} {t = w} q) =
     let e = merge-one (panelIn D b) k n m t w (front D b t x) (front D b w y) p q in (e .0, refl, ap (changed D b) (e .1))
+called-one {k} {D} {c = suc c} {b = b} x y (pin {n = n} {t = t} p) (pin {n = m} {t = w} q) =
+    let e = pin-put-one (panelIn D b) k 1 n m t w (front D b t x) (front D b w y) p q in (e .0, refl, ap (changed D b) (e .1))
+called-one {k} {D} {c = suc c} {b = b} x y (unpin {n = n} {t = t} p) (unpin {n = m} {t = w} q) =
+    let e = pin-put-one (panelIn D b) k 0 n m t w (front D b t x) (front D b w y) p q in (e .0, refl, ap (changed D b) (e .1))
 
 pub step-one : {r b u v : List ℕ} {D n m E F : ℕ} → Bytes u → Bytes v → Step r D b n E u → Step r D b m F v → (n ≡ m) × (E ≡ F) × (u ≡ v)
 step-one x y (bad f) (bad g) = (refl, refl, refl)

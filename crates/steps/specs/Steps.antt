@@ -1,4 +1,4 @@
--- One request record on a lent buffer, by "The request file" and 02, W4. b is the lent buffer; D is the depth of the panel that is open
+-- One request record on a lent buffer, by "The request file" and 02, W4 and W7. b is the lent buffer; D is the depth of the panel that is open
 -- at the buffer's start, and 0 where none is.
 use mathlib.Core.Logic.{_≢_}
 use mathlib.Core.List.{List, _++_}
@@ -6,7 +6,7 @@ use Prim.Native.Nat.{ℕ, zero, suc, _≤_, _<_}
 use lib.ListN.{take, drop}
 use Rattle.records.specs.Records.{kind, number, Fine}
 use Rattle.panel.specs.Panels.{sizeOf, Fits, leafCount}
-use Rattle.panel.specs.Calls.{Open, Split, Merge}
+use Rattle.panel.specs.Calls.{Open, Split, Merge, Pin, Unpin}
 
 -- the bytes that a panel of depth D takes in the buffer, or all where they are too few
 abbrev pub panelIn : ℕ → List ℕ → List ℕ
@@ -32,6 +32,8 @@ pub data Called (k D : ℕ) (b : List ℕ) : ℕ → ℕ → ℕ → List ℕ �
   in-use : Fits (panelIn k b) k → 2 < leavesIn D b → Called k D b 0 18 D b
   split : {n : ℕ} {t : List ℕ} → Split (panelIn D b) k n t → Called k D b 1 n D (changed D b t)
   merge : {n : ℕ} {t : List ℕ} → Merge (panelIn D b) k n t → Called k D b 2 n D (changed D b t)
+  pin : {n : ℕ} {t : List ℕ} → Pin (panelIn D b) k n t → Called k D b 3 n D (changed D b t)
+  unpin : {n : ℕ} {t : List ℕ} → Unpin (panelIn D b) k n t → Called k D b 4 n D (changed D b t)
 
 -- record r answers n, and leaves the panel of depth E in the buffer u: refusal 9 is tested first
 pub data Step (r : List ℕ) (D : ℕ) (b : List ℕ) : ℕ → ℕ → List ℕ → Type 0 where

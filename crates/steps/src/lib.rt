@@ -74,20 +74,26 @@ fn open(buffer: &mut [u8], deep: usize, depth: u32) -> Stepped
     }
 }
 
-// Splits or merges leaf k of a good panel, by the kind.
+// Splits, merges, pins or unpins leaf k of a good panel, by the kind.
 fn change(panel: &mut [u8], deep: usize, kind: u8, k: u32) -> Answer
-    requires { ⌜ Good (now panel) × (deep ≡ deepOf (now panel)) × (1 ≤ kind) × (kind ≤ 2) ⌝ }
+    requires { ⌜ Good (now panel) × (deep ≡ deepOf (now panel)) × (1 ≤ kind) × (kind ≤ 4) ⌝ }
     ensures { λ r. ⌜ Change (now (panel .entry)) k kind (answerNumber r) (now (panel .exit)) ⌝ }
 {
     if kind == 1 {
         return changes::split(panel, deep, Node(k));
     }
-    changes::merge(panel, deep, Node(k))
+    if kind == 2 {
+        return changes::merge(panel, deep, Node(k));
+    }
+    if kind == 3 {
+        return pinning::put_pin(panel, deep, Node(k), 1);
+    }
+    pinning::put_pin(panel, deep, Node(k), 0)
 }
 
 // The same of the open panel, which is lent from the buffer.
 fn change_open(buffer: &mut [u8], deep: usize, kind: u8, k: u32) -> Answer
-    requires { ⌜ Holds deep (now buffer) × (1 ≤ kind) × (kind ≤ 2) ⌝ }
+    requires { ⌜ Holds deep (now buffer) × (1 ≤ kind) × (kind ≤ 4) ⌝ }
     ensures { λ r. ⌜ Called k deep (now (buffer .entry)) kind (answerNumber r) deep (now (buffer .exit)) ⌝ }
 {
     if deep == 0 {

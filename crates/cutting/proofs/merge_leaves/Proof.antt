@@ -21,12 +21,15 @@ make-sums-requires c κs =
     let a = t .before .before .before .before in
     room-at (a .pre .0) (a .pre .1) (t .take-back .ensures .work)
 
+same-length : tie.Need-same-length
+same-length c = search needs
+
 returns : tie.Need-returns
 returns c =
     let m = c .before .before in
     let t = m .before .before .before .before in
     let a = t .before .before .before .before in
-    merge-made (a .pre .0) (mergeable a) (t .take-back .ensures) (summed-at (a .pre .0) (a .pre .1) (m .make-sums .ensures))
+    merge-made (a .pre .0) (mergeable a) (a .pre .5) (t .take-back .ensures) (summed-at (a .pre .0) (a .pre .1) (m .make-sums .ensures))
 
 pub merge-leaves-spec : {M : Type 1} → statement M
-merge-leaves-spec = tie.close (tie.spec take-back-requires make-sums-requires (λ c. search needs) returns)
+merge-leaves-spec = tie.close (tie.spec take-back-requires make-sums-requires same-length returns)
