@@ -2,7 +2,7 @@
 //! "Beside a refusal every other number returned is 0, a returned part is empty, and all lent bytes are as before the call."
 //! "the ancestor is the one number not 0 that a refusal returns"
 
-use crate::panel::{depth_of_length, length_of, Panel};
+use crate::panel::{length_of, Panel};
 use crate::triangles::{self, Neighbours, Triangle};
 use crate::{Answer, WRONG_LENGTH};
 
@@ -67,10 +67,12 @@ pub fn number_of(bytes: &[u8], node: u32) -> (u32, (u32, u32)) {
 
 /// Where the leaf bits start in the bytes, and how many bytes they fill.
 pub fn leaf_bits(bytes: &[u8]) -> (u32, (usize, usize)) {
-    told(Panel::read(bytes).and_then(|_| {
-        let places = 1usize << depth_of_length(bytes.len())?;
-        Ok((3 * places / 8, places / 8))
-    }))
+    told(Panel::read(bytes).map(|panel| panel.leaf_bytes()))
+}
+
+/// Whether a leaf is pinned, 0 or 1, and the ancestor.
+pub fn pinned(bytes: &[u8], node: u32) -> (u32, (u32, u32)) {
+    told_with_ancestor(Panel::read(bytes).and_then(|panel| panel.is_pinned(node).map(u32::from)))
 }
 
 fn change(bytes: &mut [u8], by: impl Fn(&mut Panel) -> Answer<()>) -> (u32, u32) {
@@ -83,11 +85,19 @@ fn change(bytes: &mut [u8], by: impl Fn(&mut Panel) -> Answer<()>) -> (u32, u32)
     (number, ancestor)
 }
 
-/// The ancestor is all that a split or a merge hands out.
+/// The ancestor is all that a call hands out that changes a panel.
 pub fn split(bytes: &mut [u8], node: u32) -> (u32, u32) {
     change(bytes, |panel| panel.split(node))
 }
 
 pub fn merge(bytes: &mut [u8], node: u32) -> (u32, u32) {
     change(bytes, |panel| panel.merge(node))
+}
+
+pub fn pin(bytes: &mut [u8], node: u32) -> (u32, u32) {
+    change(bytes, |panel| panel.pin(node))
+}
+
+pub fn unpin(bytes: &mut [u8], node: u32) -> (u32, u32) {
+    change(bytes, |panel| panel.unpin(node))
 }

@@ -3,7 +3,7 @@
 //! shares a side. It is slow and plain, and it shares no code and no way of computing with the proved
 //! crates, so that the two can be held against each other.
 //!
-//! Answers are document 01's numbers, 0 for done, with request W4's: what 4 means now, 10 and 18.
+//! Answers are document 01's numbers, 0 for done, with those of requests W4, what 4 means now, 10 and 18, and W7, 11.
 
 pub mod calls;
 pub mod panel;
@@ -21,7 +21,7 @@ const fn alone(number: u32) -> Refusal {
     Refusal { number, ancestor: 0 }
 }
 
-/// "length isn't 2^(D−1) for a D of 3 to 17; on open, also a depth that is out of range or doesn't fit the length"
+/// "length isn't 2^(D−1) + 2^(D−3) for a D of 3 to 17; on open, also a depth that is out of range or doesn't fit the length"
 pub const WRONG_LENGTH: Refusal = alone(1);
 /// "length fits, panel isn't good"
 pub const NOT_GOOD: Refusal = alone(2);
@@ -35,6 +35,8 @@ pub const AT_GREATEST_DEPTH: Refusal = alone(5);
 pub const AT_DEPTH_ONE: Refusal = alone(6);
 /// "leaf is deeper, but not all the leaves the merge needs are there"
 pub const LEAVES_MISSING: Refusal = alone(7);
+/// "A merge that passes 7 but would remove a pinned leaf, on either side"
+pub const LEAF_PINNED: Refusal = alone(11);
 /// "leaf number is at or above the count"
 pub const NO_SUCH_NUMBER: Refusal = alone(8);
 /// "bad record"

@@ -11,17 +11,19 @@ second: request files for the panel scanner, written, read and run by an indepen
   second text-to-records [FILE]   request text to records of eight bytes
   second records-to-text [FILE]   records back to text
   second run [FILE]               run records, and print exactly what the scanner prints
-  second panel [FILE]             run records, and print the bytes of the panel they leave, if one is open
+  second panel [FILE]             run records, and print the bytes of the panel they leave, pins last, if one is open
   second help                     print this
 
 Each reads FILE, or standard input where there is none, and writes to standard output.
 
 Request text has one request on a line; '#' starts a comment, empty lines are skipped:
 
-  open 3      a fresh panel of depth 3 (3 to 17); refused while there are more than two leaves
+  open 3      a fresh panel of depth 3 (3 to 16); refused while there are more than two leaves
   split 2     cut leaf 2, and what must be cut with it
-  merge 5     take back the cut that made leaf 5, and the one across
-  bytes 03 00 00 00 05 00 00 00   a record as it stands, good or bad; 1 to 7 bytes on the last line are a tail
+  merge 5     take back the cut that made leaf 5, and the one across; refused if a leaf is pinned that would go
+  pin 4       pin leaf 4: no merge takes it away, and if it is cut, its children are pinned
+  unpin 4     take that pin away
+  bytes 05 00 00 00 02 00 00 00   a record as it stands, good or bad; 1 to 7 bytes on the last line are a tail
 
 Exit status: 0 done; 1 the text is wrong (the message names the line); 2 the command is wrong; 3 a file
 cannot be read or written. A refused request is no error: its answer is printed, as the scanner does.

@@ -2,7 +2,7 @@
 
 use std::fmt::Write;
 
-use crate::panel::Panel;
+use crate::panel::{length_of, Panel};
 use crate::{Answer, BAD_RECORD, PANEL_IN_USE, WRONG_LENGTH};
 
 /// "Records of eight bytes"
@@ -10,12 +10,16 @@ pub const RECORD: usize = 8;
 /// "at most 4,096 records; later bytes are ignored"
 pub const MOST_RECORDS: usize = 4096;
 
-const KINDS: [&str; 3] = ["open", "split", "merge"];
+/// "The program's buffer stays at 65,536 bytes, so it answers 1 to an open deeper than 16"
+const BUFFER: usize = 65_536;
 
-/// "kind (0 open, 1 split, 2 merge), three zero bytes, then depth or node as four bytes, lowest first"
+const KINDS: [&str; 5] = ["open", "split", "merge", "pin", "unpin"];
+
+/// "kind (0 open, 1 split, 2 merge), three zero bytes, then depth or node as four bytes, lowest first";
+/// "The request file gains kinds 3 (pin) and 4 (unpin) [..]; 9 starts at kind 5"
 fn decode(record: &[u8]) -> Answer<(u8, u32)> {
     match *record {
-        [kind @ 0..=2, 0, 0, 0, a, b, c, d] => {
+        [kind @ 0..=4, 0, 0, 0, a, b, c, d] => {
             let number = [a, b, c, d].iter().rev().fold(0, |sum, byte| 256 * sum + u32::from(*byte));
             Ok((kind, number))
         }
@@ -46,6 +50,9 @@ impl Run {
     /// "18, tested after 9 and 1, to an open while its panel has more than two leaves, and keeps that panel"
     fn open(&mut self, depth: u32) -> Answer<()> {
         let fresh = Panel::fresh(depth)?;
+        if length_of(depth) > BUFFER {
+            return Err(WRONG_LENGTH);
+        }
         if self.panel.as_ref().is_some_and(|panel| panel.leaves().len() > 2) {
             return Err(PANEL_IN_USE);
         }
@@ -54,10 +61,16 @@ impl Run {
     }
 
     fn step(&mut self, record: &[u8]) -> Answer<()> {
-        match decode(record)? {
-            (0, depth) => self.open(depth),
-            (1, node) => self.panel.as_mut().ok_or(WRONG_LENGTH)?.split(node),
-            (_, node) => self.panel.as_mut().ok_or(WRONG_LENGTH)?.merge(node),
+        let (kind, number) = decode(record)?;
+        if kind == 0 {
+            return self.open(number);
+        }
+        let panel = self.panel.as_mut().ok_or(WRONG_LENGTH)?;
+        match kind {
+            1 => panel.split(number),
+            2 => panel.merge(number),
+            3 => panel.pin(number),
+            _ => panel.unpin(number),
         }
     }
 
@@ -86,8 +99,8 @@ pub fn run(file: &[u8]) -> Run {
 
 // ---- text
 
-/// The records of a text: `open 3`, `split 2` or `merge 5` on a line, `#` before a comment, and for what is no
-/// good record its bytes, `bytes 03 00 00 00 05 00 00 00` (fewer than eight only on the last line).
+/// The records of a text: `open 3`, `split 2`, `merge 5`, `pin 4` or `unpin 4` on a line, `#` before a comment, and for
+/// what is no good record its bytes, `bytes 05 00 00 00 02 00 00 00` (fewer than eight only on the last line).
 pub fn records_of_text(text: &str) -> Result<Vec<u8>, String> {
     let mut records: Vec<u8> = Vec::new();
     for (i, line) in text.lines().enumerate() {
@@ -109,7 +122,7 @@ fn record_of(words: &[&str]) -> Result<Vec<u8>, String> {
         return raw_record(&words[1..]);
     }
     let Some(kind) = KINDS.iter().position(|k| *k == words[0]) else {
-        return Err(format!("'{}' is none of open, split, merge, bytes", words[0]));
+        return Err(format!("'{}' is none of {}, bytes", words[0], KINDS.join(", ")));
     };
     let what = if kind == 0 { "depth" } else { "node" };
     match words[1..] {
