@@ -4,8 +4,8 @@
  * a call writes through a pointer is 0, but for the ancestor beside PANEL_BELOW_LEAF, and all bytes of the panel are
  * as before.
  *
- * panel_number, panel_split and panel_merge write an ancestor: beside PANEL_BELOW_LEAF the one leaf among the node's
- * ancestors, and 0 beside every other answer, PANEL_DONE too.
+ * panel_number, panel_pinned, panel_split, panel_merge, panel_pin and panel_unpin write an ancestor: beside
+ * PANEL_BELOW_LEAF the one leaf among the node's ancestors, and 0 beside every other answer, PANEL_DONE too.
  *
  * A panel is lent as a pointer and its length in bytes, `len`. Pointers are not null, also where the length is 0, and
  * no two arguments of one call point to the same place. A call keeps no pointer and writes nothing outside
@@ -23,15 +23,15 @@
 #include <stdint.h>
 
 #define JOLPIBHAR_VERSION_MAJOR 0
-#define JOLPIBHAR_VERSION_MINOR 5
+#define JOLPIBHAR_VERSION_MINOR 6
 #define JOLPIBHAR_VERSION_PATCH 0
-#define JOLPIBHAR_VERSION "0.5.0"
+#define JOLPIBHAR_VERSION "0.6.0"
 
 /* The depth of the finest panel; the coarsest is of depth 3. */
 #define PANEL_GREATEST_DEPTH 17
 
-/* The bytes of a panel of depth D. Where D is a constant it is one too: uint8_t panel[PANEL_BYTES(PANEL_GREATEST_DEPTH)]; */
-#define PANEL_BYTES(D) ((size_t)1 << ((D) - 1))
+/* The bytes of a panel of depth D, 2^(D-1) + 2^(D-3). Where D is a constant it is one too: uint8_t panel[PANEL_BYTES(PANEL_GREATEST_DEPTH)]; */
+#define PANEL_BYTES(D) ((size_t)5 << ((D) - 3))
 
 #ifdef __cplusplus
 extern "C" {
@@ -40,7 +40,7 @@ extern "C" {
 /* In the order of testing: the first that applies is answered. */
 enum {
     PANEL_DONE = 0,
-    PANEL_WRONG_LENGTH = 1,      /* length isn't 2^(D-1) for a D of 3 to 17; on open, also a depth out of range or that doesn't fit */
+    PANEL_WRONG_LENGTH = 1,      /* length isn't 2^(D-1) + 2^(D-3) for a D of 3 to 17; on open, also a depth out of range or that doesn't fit */
     PANEL_NOT_GOOD = 2,          /* length fits, panel isn't good */
     PANEL_NO_SUCH_NODE = 3,      /* node below 2, or above 2^(D+1)-1 (above 262,143 for calls that take no panel) */
     PANEL_IS_CUT = 4,            /* node is in range and is itself cut */
@@ -48,6 +48,7 @@ enum {
     PANEL_AT_GREATEST_DEPTH = 5, /* leaf is at depth D */
     PANEL_AT_DEPTH_ONE = 6,      /* leaf is at depth 1 */
     PANEL_LEAVES_MISSING = 7,    /* leaf is deeper, but not all the leaves the merge needs are there */
+    PANEL_LEAF_PINNED = 11,      /* the merge would remove a pinned leaf, on the leaf's own side or across the long side */
     PANEL_NO_SUCH_NUMBER = 8,    /* leaf number is at or above the count */
     PANEL_BAD_RECORD = 9,        /* given by the program, never by these calls; tested before all others */
     PANEL_IN_USE = 18            /* given by the program, never by these calls: an open while its panel has more than two leaves */
@@ -80,16 +81,26 @@ uint32_t panel_number(const uint8_t *panel, size_t len, uint32_t node, uint32_t 
 /* Which bytes of the panel the leaf bits fill: the place of the first, and how many. Answers 0, 1, 2. */
 uint32_t panel_leaf_bits(const uint8_t *panel, size_t len, size_t *start, size_t *size);
 
+/* Whether a leaf is pinned: 1 if it is, and else 0. Answers 0, 1, 2, 3, 4, 10. */
+uint32_t panel_pinned(const uint8_t *panel, size_t len, uint32_t node, uint32_t *pinned, uint32_t *ancestor);
+
 /* ---- calls that change a panel */
 
-/* Writes every byte: the fresh panel of this depth, with the leaves 2 and 3. Answers 0, 1. */
+/* Writes every byte: the fresh panel of this depth, with the leaves 2 and 3 and no pin. Answers 0, 1. */
 uint32_t panel_open(uint8_t *panel, size_t len, uint32_t depth);
 
-/* Cuts a leaf, and what must be cut with it so that the panel stays good. Answers 0, 1, 2, 3, 4, 10, 5. */
+/* Cuts a leaf, and what must be cut with it so that the panel stays good. The pin of each leaf that is cut passes to both its children.
+ * Answers 0, 1, 2, 3, 4, 10, 5. */
 uint32_t panel_split(uint8_t *panel, size_t len, uint32_t node, uint32_t *ancestor);
 
-/* Takes back the cut that made a leaf, and the one across the long side. Answers 0, 1, 2, 3, 4, 10, 6, 7. */
+/* Takes back the cut that made a leaf, and the one across the long side. What comes back has no pin. Answers 0, 1, 2, 3, 4, 10, 6, 7, 11. */
 uint32_t panel_merge(uint8_t *panel, size_t len, uint32_t node, uint32_t *ancestor);
+
+/* Pins a leaf, so that no merge takes it away. It may be pinned already. Answers 0, 1, 2, 3, 4, 10. */
+uint32_t panel_pin(uint8_t *panel, size_t len, uint32_t node, uint32_t *ancestor);
+
+/* Takes a leaf's pin away. It may have none. Answers 0, 1, 2, 3, 4, 10. */
+uint32_t panel_unpin(uint8_t *panel, size_t len, uint32_t node, uint32_t *ancestor);
 
 #ifdef __cplusplus
 }

@@ -10,7 +10,7 @@ fn print(request: u32, answer: Result<(), Refusal>) {
 }
 
 fn main() -> Result<(), Refusal> {
-    let mut panel = Panel::over([0; 4]);
+    let mut panel = Panel::over([0; 5]);
     print(1, panel.open(3));
     print(2, panel.split(Node(2)));
     let answer = panel.split(Node(8));

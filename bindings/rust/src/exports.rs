@@ -27,9 +27,18 @@ mod archive {
             ancestor: *mut u32,
         ) -> u32;
         pub fn panel_leaf_bits(panel: *const u8, len: usize, start: *mut usize, size: *mut usize) -> u32;
+        pub fn panel_pinned(
+            panel: *const u8,
+            len: usize,
+            node: u32,
+            pinned: *mut u32,
+            ancestor: *mut u32,
+        ) -> u32;
         pub fn panel_open(panel: *mut u8, len: usize, depth: u32) -> u32;
         pub fn panel_split(panel: *mut u8, len: usize, node: u32, ancestor: *mut u32) -> u32;
         pub fn panel_merge(panel: *mut u8, len: usize, node: u32, ancestor: *mut u32) -> u32;
+        pub fn panel_pin(panel: *mut u8, len: usize, node: u32, ancestor: *mut u32) -> u32;
+        pub fn panel_unpin(panel: *mut u8, len: usize, node: u32, ancestor: *mut u32) -> u32;
     }
 }
 
@@ -87,6 +96,15 @@ pub fn leaf_bits(panel: &[u8], before: u32) -> (u32, (usize, usize)) {
     (answer, (start, size))
 }
 
+/// The answer, whether the leaf is pinned, 0 or 1, and the ancestor.
+#[inline]
+pub fn pinned(panel: &[u8], node: u32, before: u32) -> (u32, (u32, u32)) {
+    let [mut pinned, mut ancestor] = [before; 2];
+    let answer =
+        unsafe { archive::panel_pinned(panel.as_ptr(), panel.len(), node, &mut pinned, &mut ancestor) };
+    (answer, (pinned, ancestor))
+}
+
 #[inline]
 pub fn open(panel: &mut [u8], depth: u32) -> u32 {
     unsafe { archive::panel_open(panel.as_mut_ptr(), panel.len(), depth) }
@@ -105,5 +123,21 @@ pub fn split(panel: &mut [u8], node: u32, before: u32) -> (u32, u32) {
 pub fn merge(panel: &mut [u8], node: u32, before: u32) -> (u32, u32) {
     let mut ancestor = before;
     let answer = unsafe { archive::panel_merge(panel.as_mut_ptr(), panel.len(), node, &mut ancestor) };
+    (answer, ancestor)
+}
+
+/// The answer, and the ancestor.
+#[inline]
+pub fn pin(panel: &mut [u8], node: u32, before: u32) -> (u32, u32) {
+    let mut ancestor = before;
+    let answer = unsafe { archive::panel_pin(panel.as_mut_ptr(), panel.len(), node, &mut ancestor) };
+    (answer, ancestor)
+}
+
+/// The answer, and the ancestor.
+#[inline]
+pub fn unpin(panel: &mut [u8], node: u32, before: u32) -> (u32, u32) {
+    let mut ancestor = before;
+    let answer = unsafe { archive::panel_unpin(panel.as_mut_ptr(), panel.len(), node, &mut ancestor) };
     (answer, ancestor)
 }

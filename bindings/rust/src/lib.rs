@@ -1,6 +1,6 @@
 //! A panel that a scanner looks at, cut into triangles: the proved calls of this repository, for Rust.
 //!
-//! A panel is bytes that you own, 4 at depth 3 to 65,536 at depth 17; [`Panel`] lends them to the calls. Every call has an answer
+//! A panel is bytes that you own, 5 at depth 3 to 81,920 at depth 17; [`Panel`] lends them to the calls. Every call has an answer
 //! whatever the bytes are, damaged ones too: what you asked for, or a [`Refusal`], and then no byte has changed. There is nothing to set
 //! up, and nothing that can be called in the wrong order. What the calls promise is proved, see docs/PROMISES.md; this crate only
 //! gives it Rust's types.
@@ -23,8 +23,11 @@
 //! }
 //! assert_eq!(leaves, [8, 9, 5, 6, 7].map(Node));
 //! assert_eq!(panel.number_of(Node(5))?, LeafNumber(2));
-//! assert_eq!(panel.bytes(), [0x4C, 0x4D, 0x56, 0x57]);
+//! assert_eq!(panel.bytes(), [0x4C, 0x4D, 0x56, 0x57, 0x00]);
 //!
+//! panel.pin(Node(8))?; // not to be merged away
+//! assert_eq!(panel.merge(Node(9)), Err(Refusal::LeafPinned));
+//! panel.unpin(Node(8))?;
 //! panel.merge(Node(9))?; // takes the cut of 4 back
 //! assert_eq!(panel.count()?, 4);
 //!
@@ -42,7 +45,7 @@ mod refusal;
 
 pub use refusal::Refusal;
 
-/// The depth of the finest panel. The coarsest is of depth 3; a panel of depth D has 2^(D−1) bytes.
+/// The depth of the finest panel. The coarsest is of depth 3; a panel of depth D has 2^(D−1) + 2^(D−3) bytes.
 pub const GREATEST_DEPTH: u32 = 17;
 
 /// A node's number, which says where its triangle is: node 1 is the whole panel, node k has the children 2k and 2k + 1.
@@ -88,10 +91,10 @@ impl Node {
 pub struct Panel<B>(B);
 
 impl Panel<Vec<u8>> {
-    /// A fresh panel of a depth from 3 to [`GREATEST_DEPTH`], in bytes of its own, with the leaves 2 and 3. Refused: 1.
+    /// A fresh panel of a depth from 3 to [`GREATEST_DEPTH`], in bytes of its own, with the leaves 2 and 3 and no pin. Refused: 1.
     pub fn fresh(depth: u32) -> Result<Self, Refusal> {
         // any other depth the call refuses, whatever the length
-        let length = if (1..=GREATEST_DEPTH).contains(&depth) { 1 << (depth - 1) } else { 0 };
+        let length = if (3..=GREATEST_DEPTH).contains(&depth) { 5 << (depth - 3) } else { 0 };
         let mut panel = Panel(vec![0; length]);
         panel.open(depth)?;
         Ok(panel)
@@ -143,23 +146,43 @@ impl<B: AsRef<[u8]>> Panel<B> {
         let (answer, (start, size)) = exports::leaf_bits(bytes, 0);
         done(answer, &bytes[start..start + size])
     }
+
+    /// Whether a leaf is pinned. Refused: 1, 2, 3, 4, 10.
+    pub fn is_pinned(&self, leaf: Node) -> Result<bool, Refusal> {
+        let (answer, (pinned, ancestor)) = exports::pinned(self.bytes(), leaf.0, 0);
+        done_or_below(answer, ancestor, pinned != 0)
+    }
 }
 
 impl<B: AsRef<[u8]> + AsMut<[u8]>> Panel<B> {
-    /// Writes every byte: the fresh panel of a depth, with the leaves 2 and 3. Refused: 1, also where the depth doesn't fit the bytes.
+    /// Writes every byte: the fresh panel of a depth, with the leaves 2 and 3 and no pin. Refused: 1, also where the depth doesn't fit the
+    /// bytes.
     pub fn open(&mut self, depth: u32) -> Result<(), Refusal> {
         done(exports::open(self.0.as_mut(), depth), ())
     }
 
-    /// Cuts a leaf, and what must be cut with it so that the panel stays good. Refused: 1, 2, 3, 4, 10, 5.
+    /// Cuts a leaf, and what must be cut with it so that the panel stays good. The pin of each leaf that is cut passes to both its children.
+    /// Refused: 1, 2, 3, 4, 10, 5.
     pub fn split(&mut self, leaf: Node) -> Result<(), Refusal> {
         let (answer, ancestor) = exports::split(self.0.as_mut(), leaf.0, 0);
         done_or_below(answer, ancestor, ())
     }
 
-    /// Takes back the cut that made a leaf, and the one across the long side. Refused: 1, 2, 3, 4, 10, 6, 7.
+    /// Takes back the cut that made a leaf, and the one across the long side. What comes back has no pin. Refused: 1, 2, 3, 4, 10, 6, 7, 11.
     pub fn merge(&mut self, leaf: Node) -> Result<(), Refusal> {
         let (answer, ancestor) = exports::merge(self.0.as_mut(), leaf.0, 0);
+        done_or_below(answer, ancestor, ())
+    }
+
+    /// Pins a leaf, so that no merge takes it away. It may be pinned already. Refused: 1, 2, 3, 4, 10.
+    pub fn pin(&mut self, leaf: Node) -> Result<(), Refusal> {
+        let (answer, ancestor) = exports::pin(self.0.as_mut(), leaf.0, 0);
+        done_or_below(answer, ancestor, ())
+    }
+
+    /// Takes a leaf's pin away. It may have none. Refused: 1, 2, 3, 4, 10.
+    pub fn unpin(&mut self, leaf: Node) -> Result<(), Refusal> {
+        let (answer, ancestor) = exports::unpin(self.0.as_mut(), leaf.0, 0);
         done_or_below(answer, ancestor, ())
     }
 }

@@ -8,7 +8,8 @@ use crate::Node;
 /// stand here.
 #[derive(Clone, Copy, Debug, PartialEq, Eq, Hash)]
 pub enum Refusal {
-    /// 1: the length isn't 2^(D−1) bytes for a depth D of 3 to 17; on open, also a depth that is out of range or doesn't fit the length.
+    /// 1: the length isn't 2^(D−1) + 2^(D−3) bytes for a depth D of 3 to 17; on open, also a depth that is out of range or doesn't fit the
+    /// length.
     WrongLength,
     /// 2: the length fits, the panel isn't good.
     NotGood,
@@ -24,6 +25,8 @@ pub enum Refusal {
     AtDepthOne,
     /// 7: not all the leaves that the merge needs are there.
     LeavesMissing,
+    /// 11: the merge would remove a pinned leaf, on the leaf's own side or across the long side.
+    LeafPinned,
     /// 8: there are not so many leaves.
     NoSuchNumber,
     /// 9: a bad record. Given by the scanner program, which tests it first, never by a call.
@@ -44,6 +47,7 @@ impl Refusal {
             Refusal::AtGreatestDepth => 5,
             Refusal::AtDepthOne => 6,
             Refusal::LeavesMissing => 7,
+            Refusal::LeafPinned => 11,
             Refusal::NoSuchNumber => 8,
             Refusal::BadRecord => 9,
             Refusal::PanelInUse => 18,
@@ -62,6 +66,7 @@ impl Refusal {
             (5, 0) => Some(Refusal::AtGreatestDepth),
             (6, 0) => Some(Refusal::AtDepthOne),
             (7, 0) => Some(Refusal::LeavesMissing),
+            (11, 0) => Some(Refusal::LeafPinned),
             (8, 0) => Some(Refusal::NoSuchNumber),
             (9, 0) => Some(Refusal::BadRecord),
             (18, 0) => Some(Refusal::PanelInUse),
@@ -81,6 +86,7 @@ impl fmt::Display for Refusal {
             Refusal::AtGreatestDepth => "the leaf is at the greatest depth and can't be cut",
             Refusal::AtDepthOne => "the leaf is at depth 1 and can't be merged",
             Refusal::LeavesMissing => "not all the leaves that the merge needs are there",
+            Refusal::LeafPinned => "the merge would remove a pinned leaf",
             Refusal::NoSuchNumber => "there are not so many leaves",
             Refusal::BadRecord => "the record is bad",
             Refusal::PanelInUse => "the panel has more than two leaves",

@@ -13,8 +13,8 @@ fn five() -> Panel<Vec<u8>> {
 #[test]
 fn every_refusal_of_a_call() {
     assert_eq!(Panel::fresh(18).unwrap_err(), Refusal::WrongLength);
-    assert_eq!(Panel::over([0; 5]).judge(), Err(Refusal::WrongLength));
-    assert_eq!(Panel::over([0; 4]).judge(), Err(Refusal::NotGood));
+    assert_eq!(Panel::over([0; 4]).judge(), Err(Refusal::WrongLength));
+    assert_eq!(Panel::over([0; 5]).judge(), Err(Refusal::NotGood));
     assert_eq!(five().number_of(Node(16)), Err(Refusal::NoSuchNode));
     assert_eq!(Node(1).neighbours(), Err(Refusal::NoSuchNode));
     assert_eq!(Node(262_144).corners(), Err(Refusal::NoSuchNode));
@@ -23,6 +23,9 @@ fn every_refusal_of_a_call() {
     assert_eq!(five().split(Node(8)), Err(Refusal::AtGreatestDepth));
     assert_eq!(Panel::fresh(3).unwrap().merge(Node(2)), Err(Refusal::AtDepthOne));
     assert_eq!(five().merge(Node(5)), Err(Refusal::LeavesMissing));
+    let mut pinned = five();
+    pinned.pin(Node(8)).unwrap();
+    assert_eq!(pinned.merge(Node(9)), Err(Refusal::LeafPinned));
     assert_eq!(five().leaf_at(LeafNumber(5)), Err(Refusal::NoSuchNumber));
 }
 
@@ -34,26 +37,50 @@ fn cut_or_below_a_leaf() {
         assert_eq!(fresh.number_of(Node(node)), Err(refused));
         assert_eq!(fresh.clone().split(Node(node)), Err(refused));
         assert_eq!(fresh.clone().merge(Node(node)), Err(refused));
+        assert_eq!(fresh.clone().pin(Node(node)), Err(refused));
+        assert_eq!(fresh.clone().unpin(Node(node)), Err(refused));
+        assert_eq!(fresh.is_pinned(Node(node)), Err(refused));
     }
     for node in [2, 3, 4].map(Node) {
         assert_eq!(five().number_of(node), Err(Refusal::IsCut));
         assert_eq!(five().split(node), Err(Refusal::IsCut));
         assert_eq!(five().merge(node), Err(Refusal::IsCut));
+        assert_eq!(five().pin(node), Err(Refusal::IsCut));
+        assert_eq!(five().unpin(node), Err(Refusal::IsCut));
+        assert_eq!(five().is_pinned(node), Err(Refusal::IsCut));
     }
+}
+
+#[test]
+fn pins() {
+    let mut panel = Panel::fresh(3).unwrap();
+    panel.pin(Node(2)).unwrap();
+    panel.pin(Node(2)).unwrap();
+    assert_eq!([2, 3].map(|leaf| panel.is_pinned(Node(leaf))), [Ok(true), Ok(false)]);
+    panel.split(Node(3)).unwrap(); // and 2 with it
+    assert_eq!([4, 5, 6, 7].map(|leaf| panel.is_pinned(Node(leaf)).unwrap()), [true, true, false, false]);
+    assert_eq!(panel.bytes(), [0x0C, 0x49, 0x55, 0x55, 0x05]);
+    panel.unpin(Node(4)).unwrap();
+    panel.unpin(Node(4)).unwrap();
+    assert_eq!(panel.merge(Node(6)), Err(Refusal::LeafPinned)); // 5 is across
+    panel.unpin(Node(5)).unwrap();
+    panel.merge(Node(6)).unwrap();
+    assert_eq!(panel, Panel::fresh(3).unwrap());
 }
 
 #[test]
 fn depths_from_3_to_17() {
     for depth in 3..=GREATEST_DEPTH {
         let panel = Panel::fresh(depth).unwrap();
-        assert_eq!((panel.bytes().len(), panel.count()), (1 << (depth - 1), Ok(2)));
+        let length = (1 << (depth - 1)) + (1 << (depth - 3));
+        assert_eq!((panel.bytes().len(), panel.count()), (length, Ok(2)));
     }
-    assert_eq!(Panel::fresh(15).unwrap().into_bytes().len(), 16_384);
-    assert_eq!(Panel::fresh(17).unwrap().into_bytes().len(), 65_536);
+    assert_eq!(Panel::fresh(3).unwrap().into_bytes().len(), 5);
+    assert_eq!(Panel::fresh(17).unwrap().into_bytes().len(), 81_920);
     for depth in [0, 1, 2, 18, 19, 33, u32::MAX] {
         assert_eq!(Panel::fresh(depth).unwrap_err(), Refusal::WrongLength);
     }
-    let mut beyond = Panel::over(vec![0; 131_072]);
+    let mut beyond = Panel::over(vec![0; 163_840]);
     assert_eq!(beyond.open(GREATEST_DEPTH + 1), Err(Refusal::WrongLength));
     assert_eq!(beyond.judge(), Err(Refusal::WrongLength));
 }
@@ -90,13 +117,13 @@ fn corners_and_the_sides_of_neighbours() {
 
 #[test]
 fn numbers_of_refusals() {
-    for number in (1..=9).chain([18]) {
+    for number in (1..=9).chain([11, 18]) {
         let alone = Refusal::of_answer(number, 0).unwrap();
         assert_eq!((alone.number(), Refusal::of_answer(number, 4)), (number, None));
     }
     let below = Refusal::BelowLeaf(Node(4));
     assert_eq!((below.number(), Refusal::of_answer(10, 4)), (10, Some(below)));
-    for other in [(0, 0), (0, 4), (10, 0), (10, 1), (11, 0), (17, 0), (19, 0), (u32::MAX, 0)] {
+    for other in [(0, 0), (0, 4), (10, 0), (10, 1), (12, 0), (17, 0), (19, 0), (u32::MAX, 0)] {
         assert_eq!(Refusal::of_answer(other.0, other.1), None);
     }
     assert_eq!(Refusal::IsCut.to_string(), "the node is itself cut");
@@ -105,22 +132,23 @@ fn numbers_of_refusals() {
 
 #[test]
 fn bytes_of_any_owner() {
-    let mut bytes = [0xFF; 6];
-    let mut lent = Panel::over(&mut bytes[1..5]);
+    let mut bytes = [0xFF; 7];
+    let mut lent = Panel::over(&mut bytes[1..6]);
     lent.open(3).unwrap();
     assert_eq!(lent.split(Node(4)), Err(Refusal::BelowLeaf(Node(2))));
     lent.split(Node(3)).unwrap();
-    assert_eq!(bytes, [0xFF, 0x0C, 0x49, 0x55, 0x55, 0xFF]);
-    let read = Panel::over(&bytes[1..5]);
-    assert_eq!(read.count(), Ok(4));
-    assert_eq!(read.into_bytes(), [0x0C, 0x49, 0x55, 0x55]);
+    lent.pin(Node(7)).unwrap();
+    assert_eq!(bytes, [0xFF, 0x0C, 0x49, 0x55, 0x55, 0x40, 0xFF]);
+    let read = Panel::over(&bytes[1..6]);
+    assert_eq!((read.count(), read.is_pinned(Node(7))), (Ok(4), Ok(true)));
+    assert_eq!(read.into_bytes(), [0x0C, 0x49, 0x55, 0x55, 0x40]);
 }
 
 #[test]
 fn leaf_bits_are_the_panels_own() {
     let panel = five();
-    assert_eq!(panel.leaf_bits().unwrap().as_ptr_range(), panel.bytes()[3..].as_ptr_range());
-    assert_eq!(Panel::over([0; 8]).leaf_bits(), Err(Refusal::NotGood));
+    assert_eq!(panel.leaf_bits().unwrap().as_ptr_range(), panel.bytes()[3..4].as_ptr_range());
+    assert_eq!(Panel::over([0; 10]).leaf_bits(), Err(Refusal::NotGood));
     assert_eq!(Panel::fresh(17).unwrap().leaf_bits().unwrap().len(), 16_384);
 }
 

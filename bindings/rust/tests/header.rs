@@ -37,6 +37,7 @@ fn the_header_says_the_numbers() {
         ("AT_GREATEST_DEPTH", Refusal::AtGreatestDepth),
         ("AT_DEPTH_ONE", Refusal::AtDepthOne),
         ("LEAVES_MISSING", Refusal::LeavesMissing),
+        ("LEAF_PINNED", Refusal::LeafPinned),
         ("NO_SUCH_NUMBER", Refusal::NoSuchNumber),
         ("BAD_RECORD", Refusal::BadRecord),
         ("IN_USE", Refusal::PanelInUse),
