@@ -1,11 +1,11 @@
 //! Panels that are not good, most of them by little.
 
-use second::panel::{depth_of_length, leaf_bits_of, length_of, with_right_sums, Panel};
+use second::panel::{depth_of_length, length_of, with_right_sums, Panel};
 use second::triangles::{depth, GREATEST_DEPTH, LEAST_DEPTH};
 
 use crate::fields;
 use crate::random::Random;
-use crate::runs::{bounded, random_panel};
+use crate::runs::{bounded, random_panel, with_pins};
 use crate::subject::{Asked, Subject};
 use crate::tally::{Compared, Tally};
 
@@ -33,7 +33,8 @@ fn each_bit(tally: &mut Tally, random: &mut Random, panel: &Panel) -> Compared {
 }
 
 fn single_bits(tally: &mut Tally, random: &mut Random, cases: usize) -> Compared {
-    let mut panels = [fields::good(3), fields::good(4)].concat();
+    let small = [fields::good(3), fields::good(4)].concat();
+    let mut panels: Vec<Panel> = small.into_iter().map(|panel| with_pins(panel, random)).collect();
     panels.extend((0..cases.div_ceil(20)).map(|_| random_panel(5, random)));
     panels.iter().try_for_each(|panel| each_bit(tally, random, panel))
 }
@@ -48,14 +49,72 @@ fn flipped(depth: u32, random: &mut Random) -> Vec<u8> {
     bytes
 }
 
-/// A leaf bit or two flipped, and the sums made right again: most name cuts that break a rule.
+/// A leaf bit or two flipped, the sums made right again and no pin left without a leaf: most name cuts that break a rule.
 fn other_leaf_bits(depth: u32, random: &mut Random) -> Vec<u8> {
-    let mut bits = leaf_bits_of(&random_panel(depth, random).bytes(), depth);
+    let panel = random_panel(depth, random);
+    let (mut bits, mut pins) = (panel.leaf_bits(), panel.pin_bits());
     for _ in 0..=random.below(2) {
         let place = random.below(bits.len());
         bits[place] = !bits[place];
+        pins[place] &= bits[place];
     }
-    with_right_sums(depth, &bits)
+    with_right_sums(depth, &bits, &pins)
+}
+
+/// A pin or two more, where no leaf is: the first place, the last or any.
+fn stray_pins(depth: u32, random: &mut Random) -> Vec<u8> {
+    let panel = random_panel(depth, random);
+    let (bits, mut pins) = (panel.leaf_bits(), panel.pin_bits());
+    let places: Vec<usize> = (0..bits.len()).filter(|place| !bits[*place]).collect();
+    if let (Some(first), Some(last)) = (places.first(), places.last()) {
+        for _ in 0..=random.below(2) {
+            let any = random.pick(&places);
+            pins[random.pick(&[*first, *last, any])] = true;
+        }
+    }
+    with_right_sums(depth, &bits, &pins)
+}
+
+/// Random bytes for some of the pins, or for all.
+fn random_pins(depth: u32, random: &mut Random) -> Vec<u8> {
+    let mut bytes = random_panel(depth, random).bytes();
+    let many = 1 + random.below(1 << (depth - 3));
+    let start = bytes.len() - many;
+    bytes[start..].copy_from_slice(&random.bytes(many));
+    bytes
+}
+
+/// Pins where no leaf is, or any pins.
+fn other_pins(depth: u32, random: &mut Random) -> Vec<u8> {
+    if random.once_in(2) {
+        stray_pins(depth, random)
+    } else {
+        random_pins(depth, random)
+    }
+}
+
+/// In each pin byte by itself a pin where no leaf is, if it has room for one.
+fn each_pin_byte(tally: &mut Tally, random: &mut Random, panel: &Panel) -> Compared {
+    let (bits, pins) = (panel.leaf_bits(), panel.pin_bits());
+    for start in (0..bits.len()).step_by(8) {
+        let places: Vec<usize> = (start..start + 8).filter(|place| !bits[*place]).collect();
+        if !places.is_empty() {
+            let mut pins = pins.clone();
+            pins[random.pick(&places)] = true;
+            try_some(tally, random, &with_right_sums(panel.depth(), &bits, &pins))?;
+        }
+    }
+    Ok(())
+}
+
+fn pin_bytes(tally: &mut Tally, random: &mut Random) -> Compared {
+    for depth in LEAST_DEPTH..=11 {
+        for _ in 0..2 {
+            let panel = random_panel(depth, random);
+            each_pin_byte(tally, random, &panel)?;
+        }
+    }
+    Ok(())
 }
 
 /// Word k of a panel: where it starts, and how many bits it has.
@@ -122,9 +181,12 @@ fn wrong_length(length: usize, random: &mut Random) -> Vec<u8> {
     bytes
 }
 
+/// Lengths around those that panels have, the next one too, around those that they had before there were pins, and between.
 fn lengths(tally: &mut Tally, random: &mut Random, cases: usize) -> Compared {
-    let around = (3..=18).flat_map(|k| [(1 << k) - 1, 1 << k, (1 << k) + 1, 3 << (k - 1)]);
-    for length in (0..=70).chain(around) {
+    let right = (LEAST_DEPTH..=GREATEST_DEPTH + 1).map(length_of);
+    let around = right.chain((3..=18).map(|k| 1 << k)).flat_map(|length| [length - 1, length, length + 1]);
+    let between = (3..=18).map(|k| 3 << (k - 1));
+    for length in (0..=70).chain(around).chain(between) {
         for _ in 0..cases.div_ceil(20) {
             let bytes = wrong_length(length, random);
             try_some(tally, random, &bytes)?;
@@ -135,8 +197,9 @@ fn lengths(tally: &mut Tally, random: &mut Random, cases: usize) -> Compared {
 
 pub fn all(tally: &mut Tally, random: &mut Random, cases: usize) -> Compared {
     single_bits(tally, random, cases)?;
+    pin_bytes(tally, random)?;
     lengths(tally, random, cases)?;
-    let kinds = [flipped, other_leaf_bits, other_depth_word, stray_sum, random_bytes];
+    let kinds = [flipped, other_leaf_bits, other_pins, other_depth_word, stray_sum, random_bytes];
     for depth in LEAST_DEPTH..=GREATEST_DEPTH {
         for kind in kinds {
             for _ in 0..bounded(cases, depth) {

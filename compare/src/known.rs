@@ -1,10 +1,12 @@
 //! The values of document 01's section "Known panels" that it does not mark `[M]`, in its order, the limits of request W5, what
-//! request W4 says on 01's panels of depth 3, and the corners that 01 and W6 give. Each is asked of the second program and of the
-//! exported calls, and both must answer what stands here: the two agreeing is not enough.
+//! request W4 says on 01's panels of depth 3, the lengths and pins of W7, and the corners that 01 and W6 give. Each is asked of the
+//! second program and of the exported calls, and both must answer what stands here: the two agreeing is not enough.
+
+use std::collections::BTreeSet;
 
 use jolpibhar::exports;
 use second::calls;
-use second::panel::with_right_sums;
+use second::panel::{with_right_sums, Panel};
 use second::requests::hex;
 use second::triangles::Triangle;
 
@@ -20,13 +22,16 @@ enum Call {
     LeafAt(u32),
     NumberOf(u32),
     LeafBits,
+    Pinned(u32),
     Split(u32),
     Merge(u32),
+    Pin(u32),
+    Unpin(u32),
 }
 use Call::*;
 
 /// The answer's number, and the numbers handed out beside it, 0 where a call has none: a number and an ancestor, or where a part
-/// starts and its size.
+/// starts and its size. Whether a leaf is pinned is a number too.
 type Told = (u32, [usize; 2]);
 
 /// The second program or the exported calls.
@@ -38,24 +43,44 @@ type Known = (&'static str, &'static [&'static [u8]], &'static [Call], Told);
 /// What is said; a panel and nodes of it that are no leaves; what each call that takes a node answers, and the ancestor beside it.
 type NoLeaves = (&'static str, &'static [u8], &'static [u32], u32, usize);
 
-// Panels of depth 3, by the bytes that 01 gives: leaves 2, 3; leaves 4, 5, 6, 7; leaves 8, 9, 5, 6, 7; all cut.
-const FRESH: &[u8] = &[0x8C, 0x24, 0x11, 0x11];
-const FOUR: &[u8] = &[0x0C, 0x49, 0x55, 0x55];
-const FIVE: &[u8] = &[0x4C, 0x4D, 0x56, 0x57];
-const ALL_CUT: &[u8] = &[0x0C, 0x92, 0xAA, 0xFF];
+/// Leaves of a panel, and those of them that are pinned.
+type Leaves = (&'static [u32], &'static [u32]);
+
+/// What is said; a depth, and a panel of it; the calls, and what they answer; the panel that each leaves.
+type Pins = (&'static str, u32, Leaves, &'static [Call], Told, Leaves);
+
+// Panels of depth 3, by the bytes that 01 gives, with no pin: leaves 2, 3; leaves 4, 5, 6, 7; leaves 8, 9, 5, 6, 7; all cut.
+const FRESH: &[u8] = &[0x8C, 0x24, 0x11, 0x11, 0x00];
+const FOUR: &[u8] = &[0x0C, 0x49, 0x55, 0x55, 0x00];
+const FIVE: &[u8] = &[0x4C, 0x4D, 0x56, 0x57, 0x00];
+const ALL_CUT: &[u8] = &[0x0C, 0x92, 0xAA, 0xFF, 0x00];
 
 // Bits 0 and 1 alone, read either way: of the whole panel, or of the leaf bits with right sums.
-const BITS: &[u8] = &[0x03, 0x00, 0x00, 0x00];
-const LEAF_BITS: &[u8] = &[0x8C, 0x08, 0x02, 0x03];
+const BITS: &[u8] = &[0x03, 0x00, 0x00, 0x00, 0x00];
+const LEAF_BITS: &[u8] = &[0x8C, 0x08, 0x02, 0x03, 0x00];
 
-const LENGTHS: &[&[u8]] = &[&[], &[0; 3], &[0; 5]];
+// The leaves 2, 3 and 8, 9, 5, 6, 7, each with one pin where no leaf is, and with pins on all its leaves and more.
+const STRAY_PINS: &[&[u8]] = &[
+    &[0x8C, 0x24, 0x11, 0x11, 0x02],
+    &[0x8C, 0x24, 0x11, 0x11, 0x91],
+    &[0x4C, 0x4D, 0x56, 0x57, 0x08],
+    &[0x4C, 0x4D, 0x56, 0x57, 0xD7],
+];
 
-// Lengths beside those for D = 15 and D = 17, and the one that D = 18 would have; lengths that fit D = 3, 15 and 17, with no good panel.
-const NO_LENGTHS: &[&[u8]] = &[&[0; 16_383], &[0; 65_535], &[0; 65_537], &[0; 131_072]];
-const ZEROS: &[&[u8]] = &[&[0; 4], &[0; 16_384], &[0; 65_536]];
+// The last is the fresh panel of depth 3 as it was before there were pins.
+const LENGTHS: &[&[u8]] = &[&[], &[0; 3], &[0; 4], &[0; 16_384], &[0x8C, 0x24, 0x11, 0x11]];
+
+// Lengths that D = 14 and D = 17 had; those beside the ones for D = 15 and D = 17, and the one that D = 18 would have. Lengths that fit
+// D = 3, 15 and 17, with no good panel.
+const NO_LENGTHS: &[&[u8]] =
+    &[&[0; 8_192], &[0; 65_536], &[0; 20_479], &[0; 20_481], &[0; 81_919], &[0; 81_921], &[0; 163_840]];
+const ZEROS: &[&[u8]] = &[&[0; 5], &[0; 20_480], &[0; 81_920]];
 
 /// The calls that judge the panel they are lent; open is the only other one.
-const JUDGING: &[Call] = &[Judge, Count, LeafAt(0), NumberOf(2), LeafBits, Split(2), Merge(2)];
+const JUDGING: &[Call] =
+    &[Judge, Count, LeafAt(0), NumberOf(2), LeafBits, Pinned(2), Split(2), Merge(2), Pin(2), Unpin(2)];
+
+const NODE_16: &[Call] = &[NumberOf(16), Pinned(16), Split(16), Merge(16), Pin(16), Unpin(16)];
 
 /// Depths in range; and beyond it, also such as are 3 or 17 in their lowest bits.
 const OPENS: &[Call] = &[Open(3), Open(15), Open(17)];
@@ -65,20 +90,21 @@ const KNOWN: &[Known] = &[
     ("split 8 at D = 3 where 8 is a leaf: 5", &[FIVE, ALL_CUT], &[Split(8)], (5, [0, 0])),
     ("merge 2 on a fresh panel: 6", &[FRESH], &[Merge(2)], (6, [0, 0])),
     ("all cut at D = 3, the number of leaf 15 is 7", &[ALL_CUT], &[NumberOf(15)], (0, [7, 0])),
-    ("all cut at D = 3, node 16 answers 3", &[ALL_CUT], &[NumberOf(16), Split(16), Merge(16)], (3, [0, 0])),
+    ("all cut at D = 3, node 16 answers 3", &[ALL_CUT], NODE_16, (3, [0, 0])),
     ("leaf number 4 of five is a leaf", &[FIVE], &[LeafAt(4)], (0, [7, 0])),
     ("leaf number 5 of five answers 8", &[FIVE], &[LeafAt(5)], (8, [0, 0])),
-    ("lengths 0, 3 and 5 answer 1", LENGTHS, JUDGING, (1, [0, 0])),
-    ("lengths 0, 3 and 5 answer 1", LENGTHS, OPENS, (1, [0, 0])),
+    ("lengths 0 and 3, and now 4 and 16,384, answer 1", LENGTHS, JUDGING, (1, [0, 0])),
+    ("lengths 0 and 3, and now 4 and 16,384, answer 1", LENGTHS, OPENS, (1, [0, 0])),
     ("bits 0 and 1 alone at D = 3 answer 2", &[BITS, LEAF_BITS], JUDGING, (2, [0, 0])),
-    ("refusal 1: length isn't 2^(D−1) for a D of 3 to 17", NO_LENGTHS, JUDGING, (1, [0, 0])),
-    ("refusal 1: length isn't 2^(D−1) for a D of 3 to 17", NO_LENGTHS, OPENS, (1, [0, 0])),
+    ("refusal 1: length isn't 2^(D−1) + 2^(D−3) for a D of 3 to 17", NO_LENGTHS, JUDGING, (1, [0, 0])),
+    ("refusal 1: length isn't 2^(D−1) + 2^(D−3) for a D of 3 to 17", NO_LENGTHS, OPENS, (1, [0, 0])),
     ("refusal 1: on open, also a depth out of range", NO_LENGTHS, BEYOND, (1, [0, 0])),
     ("refusal 1: on open, also a depth out of range", ZEROS, BEYOND, (1, [0, 0])),
     ("refusal 2: length fits, panel isn't good", ZEROS, JUDGING, (2, [0, 0])),
+    ("a pin bit set where no leaf bit is set makes the panel not good", STRAY_PINS, JUDGING, (2, [0, 0])),
 ];
 
-/// What W4 says of nodes that are no leaves, to number of leaf, split and merge alike.
+/// What W4 says of nodes that are no leaves, to all calls alike that take a panel and a node.
 const NO_LEAVES: &[NoLeaves] = &[
     ("4 means the node is itself cut", FOUR, &[2, 3], 4, 0),
     ("4 means the node is itself cut", FIVE, &[2, 3, 4], 4, 0),
@@ -91,10 +117,57 @@ const NO_LEAVES: &[NoLeaves] = &[
     ("10 means an ancestor is the leaf", FIVE, &[14, 15], 10, 7),
 ];
 
-/// What W5 says of finer panels: a depth, its length and its last node.
-const FINER: &[(&str, u32, usize, u32)] = &[
-    ("length 16,384 is now good for D = 15", 15, 16_384, 65_535),
-    ("D up to 17, a panel of 65,536 bytes; nodes go to 262,143", 17, 65_536, 262_143),
+/// What W5 and W7 say of panels: a depth, its length and its last node.
+const DEPTHS: &[(&str, u32, usize, u32)] = &[
+    ("length 5 is now D = 3", 3, 5, 15),
+    ("D up to 17; its length is 2^(D−1) + 2^(D−3) bytes", 15, 20_480, 65_535),
+    ("D up to 17; its length is 2^(D−1) + 2^(D−3) bytes; nodes go to 262,143", 17, 81_920, 262_143),
+];
+
+const DONE: Told = (0, [0, 0]);
+const IS_PINNED: Told = (0, [1, 0]);
+const TOLD: &str = "a leaf is pinned or not";
+const ONE_PIN: &str = "pin and unpin set or clear the pin bit in the place of that leaf's own leaf bit, and change nothing else";
+const ALREADY: &str = "pin and unpin answer 0, also where the pin is already so";
+const PASSED: &str = "a cut leaf's pin passes to both children";
+const FORCED: &str = "a cut leaf's pin passes to both children, also where the cut was forced";
+const OTHERS: &str = "split and merge leave every other pin as it was";
+const ELEVEN: &str =
+    "a merge that passes 7 but would remove a pinned leaf, on either side, is refused with 11";
+
+const TWO_LEAVES: &[u32] = &[2, 3];
+const FOUR_LEAVES: &[u32] = &[4, 5, 6, 7];
+const FIVE_LEAVES: &[u32] = &[8, 9, 5, 6, 7];
+const SIX_LEAVES: &[u32] = &[8, 9, 5, 6, 14, 15];
+const EIGHT_LEAVES: &[u32] = &[16, 17, 9, 5, 6, 14, 30, 31];
+const MERGES: &[Call] = &[Merge(4), Merge(5), Merge(6), Merge(7)];
+
+/// What W7 says of pins, on 01's panels of depth 3, and of depth 4 where a split cuts in two steps.
+const PINS: &[Pins] = &[
+    (ONE_PIN, 3, (FIVE_LEAVES, &[]), &[Pin(9)], DONE, (FIVE_LEAVES, &[9])),
+    (ONE_PIN, 3, (FIVE_LEAVES, &[8, 7]), &[Pin(5)], DONE, (FIVE_LEAVES, &[8, 5, 7])),
+    (ONE_PIN, 3, (FIVE_LEAVES, &[8, 5, 7]), &[Unpin(5)], DONE, (FIVE_LEAVES, &[8, 7])),
+    (ALREADY, 3, (FIVE_LEAVES, &[9, 6]), &[Pin(9), Pin(6)], DONE, (FIVE_LEAVES, &[9, 6])),
+    (ALREADY, 3, (FIVE_LEAVES, &[9, 6]), &[Unpin(8), Unpin(7)], DONE, (FIVE_LEAVES, &[9, 6])),
+    (TOLD, 3, (FIVE_LEAVES, &[9, 6]), &[Pinned(9), Pinned(6)], IS_PINNED, (FIVE_LEAVES, &[9, 6])),
+    (TOLD, 3, (FIVE_LEAVES, &[9, 6]), &[Pinned(8), Pinned(7)], DONE, (FIVE_LEAVES, &[9, 6])),
+    (PASSED, 3, (TWO_LEAVES, &[2]), &[Split(2)], DONE, (FOUR_LEAVES, &[4, 5])),
+    (FORCED, 3, (TWO_LEAVES, &[3]), &[Split(2)], DONE, (FOUR_LEAVES, &[6, 7])),
+    (FORCED, 3, (TWO_LEAVES, &[2, 3]), &[Split(2), Split(3)], DONE, (FOUR_LEAVES, FOUR_LEAVES)),
+    (PASSED, 4, (FIVE_LEAVES, &[8]), &[Split(8)], DONE, (EIGHT_LEAVES, &[16, 17])),
+    (FORCED, 4, (FIVE_LEAVES, &[7]), &[Split(8)], DONE, (EIGHT_LEAVES, &[14, 30, 31])),
+    (FORCED, 4, (FIVE_LEAVES, FIVE_LEAVES), &[Split(8)], DONE, (EIGHT_LEAVES, EIGHT_LEAVES)),
+    (OTHERS, 4, (FIVE_LEAVES, &[9, 5, 6]), &[Split(8)], DONE, (EIGHT_LEAVES, &[9, 5, 6])),
+    (OTHERS, 3, (FIVE_LEAVES, &[5, 6, 7]), &[Merge(8), Merge(9)], DONE, (FOUR_LEAVES, &[5, 6, 7])),
+    (OTHERS, 4, (EIGHT_LEAVES, &[9, 14]), &[Merge(17), Merge(30)], DONE, (SIX_LEAVES, &[9, 14])),
+    (ELEVEN, 3, (FOUR_LEAVES, &[4]), MERGES, (11, [0, 0]), (FOUR_LEAVES, &[4])),
+    (ELEVEN, 3, (FOUR_LEAVES, &[5]), MERGES, (11, [0, 0]), (FOUR_LEAVES, &[5])),
+    (ELEVEN, 3, (FOUR_LEAVES, &[6]), MERGES, (11, [0, 0]), (FOUR_LEAVES, &[6])),
+    (ELEVEN, 3, (FOUR_LEAVES, &[7]), MERGES, (11, [0, 0]), (FOUR_LEAVES, &[7])),
+    (ELEVEN, 3, (FIVE_LEAVES, &[8]), &[Merge(8), Merge(9)], (11, [0, 0]), (FIVE_LEAVES, &[8])),
+    (ELEVEN, 4, (EIGHT_LEAVES, &[31]), &[Merge(16), Merge(30)], (11, [0, 0]), (EIGHT_LEAVES, &[31])),
+    (ELEVEN, 3, (FIVE_LEAVES, FIVE_LEAVES), &[Merge(5), Merge(6)], (7, [0, 0]), (FIVE_LEAVES, FIVE_LEAVES)),
+    (ELEVEN, 3, (TWO_LEAVES, TWO_LEAVES), &[Merge(2)], (6, [0, 0]), (TWO_LEAVES, TWO_LEAVES)),
 ];
 
 /// What 01 and W6 say of corners.
@@ -133,8 +206,11 @@ fn by_second(call: Call, panel: &mut [u8]) -> Told {
         LeafAt(number) => with(calls::leaf_at(panel, number)),
         NumberOf(node) => with_both(calls::number_of(panel, node)),
         LeafBits => with_part(calls::leaf_bits(panel)),
+        Pinned(node) => with_both(calls::pinned(panel, node)),
         Split(node) => with_ancestor(calls::split(panel, node)),
         Merge(node) => with_ancestor(calls::merge(panel, node)),
+        Pin(node) => with_ancestor(calls::pin(panel, node)),
+        Unpin(node) => with_ancestor(calls::unpin(panel, node)),
     }
 }
 
@@ -146,8 +222,11 @@ fn by_exports(call: Call, panel: &mut [u8]) -> Told {
         LeafAt(number) => with(exports::leaf(panel, number, JUNK)),
         NumberOf(node) => with_both(exports::number(panel, node, JUNK)),
         LeafBits => with_part(exports::leaf_bits(panel, JUNK)),
+        Pinned(node) => with_both(exports::pinned(panel, node, JUNK)),
         Split(node) => with_ancestor(exports::split(panel, node, JUNK)),
         Merge(node) => with_ancestor(exports::merge(panel, node, JUNK)),
+        Pin(node) => with_ancestor(exports::pin(panel, node, JUNK)),
+        Unpin(node) => with_ancestor(exports::unpin(panel, node, JUNK)),
     }
 }
 
@@ -161,7 +240,7 @@ fn one(says: &str, panel: &[u8], call: Call, known: Told, after: &[u8]) -> Compa
             let line = |(answer, [one, other]): Told| format!("answer {answer} with {one}, {other}");
             let bytes = if lent == after { "" } else { ", and other bytes" };
             return Err(Difference(format!(
-                "01, W4 or W5 says: {says}\n  asked: {call:?}, panel of {} bytes: {}\n  {side}: {}{bytes}\n  known: {}",
+                "01 or 02 says: {says}\n  asked: {call:?}, panel of {} bytes: {}\n  {side}: {}{bytes}\n  known: {}",
                 panel.len(),
                 hex(panel),
                 line(told),
@@ -175,7 +254,7 @@ fn one(says: &str, panel: &[u8], call: Call, known: Told, after: &[u8]) -> Compa
 fn no_leaves(tally: &mut Tally) -> Compared {
     for (says, panel, nodes, answer, ancestor) in NO_LEAVES {
         for node in *nodes {
-            for call in [NumberOf(*node), Split(*node), Merge(*node)] {
+            for call in [NumberOf, Pinned, Split, Merge, Pin, Unpin].map(|call| call(*node)) {
                 one(says, panel, call, (*answer, [0, *ancestor]), panel)?;
                 tally.known();
             }
@@ -184,17 +263,54 @@ fn no_leaves(tally: &mut Tally) -> Compared {
     Ok(())
 }
 
-/// An open of each finer depth leaves the panel whose leaf bits are those of nodes 2 and 3; it is good, and has nodes to its last.
-fn finer(tally: &mut Tally) -> Compared {
-    for (says, depth, length, last) in FINER {
-        let mut leaf_bits = vec![false; 1 << depth];
-        (leaf_bits[0], leaf_bits[1 << (depth - 1)]) = (true, true);
-        let fresh = with_right_sums(*depth, &leaf_bits);
-        one(says, &vec![0xEE; *length], Open(*depth), alone(0), &fresh)?;
+/// The panel of a depth with these leaves, and these of them pinned: "a leaf k of depth d sets leaf bit k·2^(D−d) − 2^D".
+fn panel_of(depth: u32, (leaves, pinned): (&[u32], &[u32])) -> Vec<u8> {
+    let [leaf_bits, pins] = [leaves, pinned].map(|nodes| {
+        let mut bits = vec![false; 1 << depth];
+        nodes.iter().for_each(|k| bits[(k << (depth - k.ilog2())) as usize - (1 << depth)] = true);
+        bits
+    });
+    with_right_sums(depth, &leaf_bits, &pins)
+}
+
+/// An open of each depth leaves the panel whose leaf bits are those of nodes 2 and 3, with no pin; it is good, and has nodes to its last.
+/// The leaf bits have the bytes before the pins.
+fn depths(tally: &mut Tally) -> Compared {
+    for (says, depth, length, last) in DEPTHS {
+        let fresh = panel_of(*depth, (TWO_LEAVES, &[]));
+        one(says, &vec![0xEE; *length], Open(*depth), DONE, &fresh)?;
         tally.known();
-        let below = (10, [0, 3]);
-        for (call, known) in [(Judge, alone(0)), (NumberOf(*last), below), (NumberOf(*last + 1), alone(3))] {
+        let part = (0, [3 << (depth - 3), 1 << (depth - 3)]);
+        let reads = [(Judge, DONE), (LeafBits, part), (NumberOf(*last), (10, [0, 3]))];
+        for (call, known) in reads.into_iter().chain([(NumberOf(*last + 1), alone(3))]) {
             one(says, &fresh, call, known, &fresh)?;
+            tally.known();
+        }
+    }
+    Ok(())
+}
+
+/// In a panel that is cut down to its last node, the pin of that leaf is the last bit of all.
+fn last_pins(tally: &mut Tally) -> Compared {
+    for (_, depth, _, last) in DEPTHS {
+        let clear = Panel::holding(*depth, &BTreeSet::from([last / 2])).bytes();
+        let mut set = clear.clone();
+        set[clear.len() - 1] += 0x80;
+        one(ONE_PIN, &clear, Pin(*last), DONE, &set)?;
+        one(ONE_PIN, &set, Pinned(*last), IS_PINNED, &set)?;
+        one(ONE_PIN, &set, Unpin(*last), DONE, &clear)?;
+        (0..3).for_each(|_| tally.known());
+    }
+    Ok(())
+}
+
+fn pins(tally: &mut Tally) -> Compared {
+    assert_eq!(panel_of(3, (FIVE_LEAVES, &[])), FIVE);
+    assert_eq!(panel_of(3, (FIVE_LEAVES, &[9, 7]))[3..], [0x57, 0x42]);
+    assert_eq!(panel_of(4, (EIGHT_LEAVES, &[17, 14, 30, 31]))[8..], [0x02, 0xD0]);
+    for (says, depth, before, calls, known, after) in PINS {
+        for call in *calls {
+            one(says, &panel_of(*depth, *before), *call, *known, &panel_of(*depth, *after))?;
             tally.known();
         }
     }
@@ -215,7 +331,7 @@ fn corners(tally: &mut Tally) -> Compared {
 
 pub fn all(tally: &mut Tally) -> Compared {
     let leaf_bits: Vec<bool> = (0..8).map(|place| place < 2).collect();
-    assert_eq!(with_right_sums(3, &leaf_bits), LEAF_BITS);
+    assert_eq!(with_right_sums(3, &leaf_bits, &[]), LEAF_BITS);
     for (says, panels, calls, known) in KNOWN {
         for panel in *panels {
             for call in *calls {
@@ -225,6 +341,8 @@ pub fn all(tally: &mut Tally) -> Compared {
         }
     }
     no_leaves(tally)?;
-    finer(tally)?;
+    depths(tally)?;
+    pins(tally)?;
+    last_pins(tally)?;
     corners(tally)
 }

@@ -4,8 +4,9 @@
 //!     compare [--seed NUMBER] [--cases NUMBER]
 //!
 //! The same seed and number give the same cases. It prints how many cases it compared, by call and answer, how often a call told an
-//! ancestor, by how far above the node that is, how many panels by depth, and how many known values. Exit status: 0 no difference, and
-//! every answer of every call and every ancestor's distance was seen; 1 otherwise; 2 wrong arguments.
+//! ancestor, by how far above the node that is, how often one pin alone refused a merge, by the leaf that it is on, how many panels by
+//! depth, and how many known values. Exit status: 0 no difference, and every answer of every call, every ancestor's distance and a pin on
+//! each such leaf was seen; 1 otherwise; 2 wrong arguments.
 
 mod damage;
 mod fields;
@@ -23,7 +24,7 @@ use std::process::ExitCode;
 use random::Random;
 use tally::{Compared, Difference, Tally};
 
-/// The calls that are compared, and the answers that document 01 and request W4 give each, in the order of testing.
+/// The calls that are compared, and the answers that document 01 and requests W4 and W7 give each, in the order of testing.
 pub const CALLS: &[(&str, &[u32])] = &[
     ("node_neighbours", &[0, 3]),
     ("node_corners", &[0, 3]),
@@ -34,13 +35,17 @@ pub const CALLS: &[(&str, &[u32])] = &[
     ("panel_number", &[0, 1, 2, 3, 4, 10]),
     ("panel_leaf_bits", &[0, 1, 2]),
     ("panel_split", &[0, 1, 2, 3, 4, 10, 5]),
-    ("panel_merge", &[0, 1, 2, 3, 4, 10, 6, 7]),
+    ("panel_merge", &[0, 1, 2, 3, 4, 10, 6, 7, 11]),
+    ("panel_pin", &[0, 1, 2, 3, 4, 10]),
+    ("panel_unpin", &[0, 1, 2, 3, 4, 10]),
+    ("panel_pinned", &[0, 1, 2, 3, 4, 10]),
     // a run's panel is always good, and no request takes a leaf number
-    ("scanner", &[0, 9, 1, 18, 3, 4, 10, 5, 6, 7]),
+    ("scanner", &[0, 9, 1, 18, 3, 4, 10, 5, 6, 7, 11]),
 ];
 
 /// The calls that tell an ancestor beside 10.
-pub const WITH_ANCESTOR: &[&str] = &["panel_number", "panel_split", "panel_merge"];
+pub const WITH_ANCESTOR: &[&str] =
+    &["panel_number", "panel_split", "panel_merge", "panel_pin", "panel_unpin", "panel_pinned"];
 
 /// What every number that a call is to write holds before it, so that one it leaves alone shows.
 pub const JUNK: u32 = 0xA5C3_0F69;

@@ -1,4 +1,4 @@
-//! Good panels of every depth, reached by long runs of splits and merges.
+//! Good panels of every depth, reached by long runs of splits and merges, pins and unpins among them.
 
 use std::collections::BTreeSet;
 
@@ -6,7 +6,7 @@ use second::panel::Panel;
 use second::triangles::{depth, GREATEST_DEPTH, LEAST_DEPTH};
 
 use crate::random::Random;
-use crate::subject::{way_through, Asked, Subject};
+use crate::subject::{way_through, Asked, Change, Subject, MERGE, PIN, SPLIT, UNPIN};
 use crate::tally::{Compared, Tally};
 
 /// How many of so many cases are tried at a depth. A panel has twice the bytes of one a depth less; from 14 on half as many cases
@@ -15,20 +15,31 @@ pub fn bounded(cases: usize, depth: u32) -> usize {
     (cases >> depth.saturating_sub(14)).max(1)
 }
 
-/// The smallest good panel with some random cuts, few or many.
+/// The panel with some of its leaves pinned: many, few or none.
+pub fn with_pins(mut panel: Panel, random: &mut Random) -> Panel {
+    let rarely = random.pick(&[2, 8, 64, usize::MAX]);
+    for leaf in panel.leaves().to_vec() {
+        if random.once_in(rarely) {
+            panel.pin(leaf).expect("a leaf");
+        }
+    }
+    panel
+}
+
+/// The smallest good panel with some random cuts, few or many, and pins.
 pub fn random_panel(panel_depth: u32, random: &mut Random) -> Panel {
     let nodes = 1usize << panel_depth;
     let many = 1 << random.below(panel_depth as usize);
     let cuts: BTreeSet<u32> = (0..many).map(|_| 1 + random.below(nodes - 1) as u32).collect();
-    Panel::holding(panel_depth, &cuts)
+    with_pins(Panel::holding(panel_depth, &cuts), random)
 }
 
-fn all_cut(depth: u32) -> Panel {
-    Panel::holding(depth, &(1..1 << depth).collect())
+fn all_cut(depth: u32, random: &mut Random) -> Panel {
+    with_pins(Panel::holding(depth, &(1..1 << depth).collect()), random)
 }
 
 /// A node to change: mostly a leaf, often one of the deepest, at times one above a leaf or below it or any number.
-pub fn node(panel: &Panel, random: &mut Random) -> u32 {
+fn node(panel: &Panel, random: &mut Random) -> u32 {
     let leaf = random.pick(panel.leaves());
     let other = random.pick(panel.leaves());
     match random.below(16) {
@@ -51,19 +62,33 @@ pub fn node(panel: &Panel, random: &mut Random) -> u32 {
     }
 }
 
+/// What to do to a panel, and where: mostly to split as it is to grow, and else to merge; at times to pin, and as often to unpin, mostly
+/// what is pinned.
+pub fn change(panel: &Panel, grow: bool, random: &mut Random) -> (Change, u32) {
+    let node = node(panel, random);
+    match random.below(8) {
+        0 => (PIN, node),
+        1 if panel.pinned().is_empty() || random.once_in(4) => (UNPIN, node),
+        1 => {
+            let pinned: Vec<u32> = panel.pinned().iter().copied().collect();
+            (UNPIN, random.pick(&pinned))
+        }
+        _ if random.once_in(4) != grow => (SPLIT, node),
+        _ => (MERGE, node),
+    }
+}
+
 /// So many steps from a panel on, growing and shrinking by turns. Each step's answer and bytes are compared, and
 /// then some of the calls that read.
 fn run(tally: &mut Tally, random: &mut Random, start: Panel, steps: usize) -> Compared {
     let mut panel = start;
     for step in 0..steps {
-        let node = node(&panel, random);
         let grow = (step * 6 / steps).is_multiple_of(2);
+        let (change, node) = change(&panel, grow, random);
         let asked = Asked::some(panel.depth(), panel.leaves(), random);
         let mut subject = Subject::made(tally, random, panel.clone());
         subject.reads(&asked)?;
-        let split = random.once_in(4) != grow;
-        let after = if split { subject.split(node)? } else { subject.merge(node)? };
-        panel = after.unwrap_or(panel);
+        panel = subject.change(&change, node)?.unwrap_or(panel);
     }
     Ok(())
 }
@@ -95,7 +120,8 @@ pub fn all(tally: &mut Tally, random: &mut Random, cases: usize) -> Compared {
         let some = random_panel(depth, random);
         ways(tally, random, some.clone())?;
         run(tally, random, some, steps)?;
-        run(tally, random, all_cut(depth), steps)?;
+        let all_cut = all_cut(depth, random);
+        run(tally, random, all_cut, steps)?;
         let some = random_panel(depth, random);
         all_over(tally, random, some)?;
     }

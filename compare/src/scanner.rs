@@ -7,10 +7,10 @@ use std::time::Duration;
 
 use second::panel::Panel;
 use second::requests::{self, records_of_text, Run, MOST_RECORDS, RECORD};
-use second::triangles::{GREATEST_DEPTH, LEAST_DEPTH};
+use second::triangles::LEAST_DEPTH;
 
 use crate::random::Random;
-use crate::runs::node;
+use crate::runs::change;
 use crate::subject::any_depth;
 use crate::tally::{Compared, Difference, Tally};
 
@@ -19,6 +19,9 @@ const PROGRAM: &str = concat!(env!("CARGO_MANIFEST_DIR"), "/../.ci/scanner");
 /// Where an input that is read in parts, and lines that are written in blocks, have their borders: 512 records, and 8 KiB of text.
 const PART: usize = 512;
 const BLOCK: usize = 8192;
+
+/// "it answers 1 to an open deeper than 16"
+const DEEPEST: u32 = 16;
 
 /// How long the program takes to start, under an emulator too. What comes earlier comes as one part.
 const START: Duration = Duration::from_millis(200);
@@ -122,9 +125,9 @@ fn with_tail(file: &[u8], length: usize) -> Vec<u8> {
 
 /// A record that is bad by its kind or by one of its spare bytes.
 fn bad(random: &mut Random) -> String {
-    let mut record = [random.below(3) as u8, 0, 0, 0, 1 + random.below(9) as u8, 0, 0, 0];
+    let mut record = [random.below(5) as u8, 0, 0, 0, 1 + random.below(9) as u8, 0, 0, 0];
     match random.below(4) {
-        0 => record[0] = 3 + random.below(253) as u8,
+        0 => record[0] = if random.once_in(2) { 5 } else { 5 + random.below(251) as u8 },
         place => record[place] = 1 + random.below(255) as u8,
     }
     format!("bytes {}\n", requests::hex(&record))
@@ -152,8 +155,11 @@ impl Draft {
         self.run.panel.as_ref().map_or(&[], Panel::leaves)
     }
 
-    /// Merges down to two leaves. Of the deepest leaf the sibling and the two across are as deep, so that each merge is allowed.
+    /// Unpins all, and merges down to two leaves. Of the deepest leaf the sibling and the two across are as deep, so that each merge is
+    /// allowed.
     fn merge_back(&mut self) {
+        let pinned = self.run.panel.as_ref().map(|panel| panel.pinned().clone());
+        pinned.unwrap_or_default().into_iter().for_each(|leaf| self.ask("unpin", leaf));
         while self.leaves().len() > 2 {
             let deepest = self.leaves().iter().copied().max().expect("more than two");
             self.ask("merge", deepest);
@@ -161,7 +167,7 @@ impl Draft {
     }
 }
 
-/// So many requests: mostly splits and merges of leaves, opens and bad records among them. Over a scan an open is rare, and refused
+/// So many requests: mostly splits and merges of leaves, pins, opens and bad records among them. Over a scan an open is rare, and refused
 /// unless all is merged back before; over two leaves it comes more often.
 fn some(depth: u32, many: usize, random: &mut Random) -> Vec<u8> {
     let mut draft = Draft::default();
@@ -176,10 +182,11 @@ fn some(depth: u32, many: usize, random: &mut Random) -> Vec<u8> {
                 draft.merge_back();
             }
             draft.ask("open", if random.once_in(2) { depth } else { any_depth(random) });
+        } else if let Some(panel) = &draft.run.panel {
+            let (change, node) = change(panel, (step * 4 / many).is_multiple_of(2), random);
+            draft.ask(change.request, node);
         } else {
-            let split = random.once_in(4) != (step * 4 / many).is_multiple_of(2);
-            let number = draft.run.panel.as_ref().map_or(2, |p| node(p, random));
-            draft.ask(if split { "split" } else { "merge" }, number);
+            draft.ask(random.pick(&["split", "merge", "pin", "unpin"]), 2);
         }
         if random.once_in(30) {
             draft.add(&records(&bad(random)));
@@ -237,7 +244,7 @@ fn limit(tally: &mut Tally, random: &mut Random) -> Compared {
         }
         one(tally, random, &with_tail(&file, 3), Uneven(700))?;
     }
-    one(tally, random, &level_by_level(GREATEST_DEPTH, MOST_RECORDS + 900), Whole)
+    one(tally, random, &level_by_level(DEEPEST, MOST_RECORDS + 900), Whole)
 }
 
 /// One part of records, one record less and more, and two parts, with and without a tail, however they come.
@@ -266,17 +273,18 @@ fn blocks(tally: &mut Tally, random: &mut Random) -> Compared {
     }
     // a split of each node above depth 12: all is cut
     one(tally, random, &level_by_level(12, (1 << 12) - 1), Whole)?;
-    let file = deep(GREATEST_DEPTH, 700, random);
+    let file = deep(DEEPEST, 700, random);
     one(tally, random, &file, Whole)
 }
 
 /// The finest panel, the coarsest and the finest again in the program's one buffer, between opens that are refused for their depth or
 /// as bad records: each open over the scan before it, where it is refused, and then each after that is merged back.
 fn opens(tally: &mut Tally, random: &mut Random) -> Compared {
-    let finest = deep(GREATEST_DEPTH, 40, random);
+    let finest = deep(DEEPEST, 40, random);
     let coarsest = level_by_level(LEAST_DEPTH, 6);
-    let refused =
-        records("open 2\nopen 18\nopen 19\nopen 49\nopen 4294967295\nbytes 00 01 00 00 03 00 00 00\n");
+    let refused = records(
+        "open 2\nopen 17\nopen 18\nopen 19\nopen 49\nopen 4294967295\nbytes 00 01 00 00 03 00 00 00\n",
+    );
     for merged_back in [false, true] {
         let mut draft = Draft::default();
         for more in [&refused, &finest, &refused, &coarsest, &refused, &finest, &refused] {
@@ -292,18 +300,20 @@ fn opens(tally: &mut Tally, random: &mut Random) -> Compared {
 }
 
 /// Around two leaves, at every depth: an open is done over a fresh panel, refused after its first split, and done at another depth once
-/// that is merged back. Which panel is there shows by its last node, which lies below a leaf, and the next one.
+/// that is merged back. Which panel is there shows by its last node, which lies below a leaf, and the next one. Pins of two leaves don't
+/// refuse an open, and go with it; where it is refused, they stay.
 fn two_leaves(tally: &mut Tally, random: &mut Random) -> Compared {
-    let depths: Vec<u32> = (LEAST_DEPTH..=GREATEST_DEPTH).collect();
+    let depths: Vec<u32> = (LEAST_DEPTH..=DEEPEST).collect();
     for depth in &depths {
         let other = random.pick(&depths);
         let [ends, other_ends] =
             [*depth, other].map(|d| format!("split {}\nmerge {}\n", (2 << d) - 1, 2 << d));
-        let fresh = format!("open {depth}\nopen {other}\n{other_ends}open {depth}\n{ends}");
+        let fresh = format!("open {depth}\npin 2\npin 3\nopen {other}\n{other_ends}open {depth}\n{ends}");
         let refused =
-            format!("split 2\nopen {other}\nopen 18\nbytes 00 00 00 01 {other:02X} 00 00 00\n{ends}");
+            format!("split 2\nopen {other}\nopen 17\nbytes 00 00 00 01 {other:02X} 00 00 00\n{ends}");
+        let pinned = format!("pin 5\nmerge 7\nopen {other}\nmerge 4\nunpin 5\n{ends}");
         let anew = format!("merge 7\nopen {other}\n{other_ends}split 3\nopen {depth}\n{other_ends}");
-        one(tally, random, &records(&(fresh + &refused + &anew)), Whole)?;
+        one(tally, random, &records(&(fresh + &refused + &pinned + &anew)), Whole)?;
     }
     Ok(())
 }
@@ -315,7 +325,7 @@ pub fn all(tally: &mut Tally, random: &mut Random, cases: usize) -> Compared {
     blocks(tally, random)?;
     opens(tally, random)?;
     two_leaves(tally, random)?;
-    for depth in LEAST_DEPTH..=GREATEST_DEPTH {
+    for depth in LEAST_DEPTH..=DEEPEST {
         for case in 0..cases.div_ceil(40) {
             let many = 1 + random.below(400);
             let file = some(depth, many, random);

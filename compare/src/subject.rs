@@ -4,10 +4,10 @@ use std::fmt::Debug;
 
 use jolpibhar::exports;
 use second::calls::{self, told, told_with_ancestor};
-use second::panel::{depth_of_length, Panel};
+use second::panel::{depth_of_length, merged_away, Panel};
 use second::requests::hex;
 use second::triangles::{depth, GREATEST_DEPTH, LAST_NODE};
-use second::Answer;
+use second::{Answer, LEAF_PINNED};
 
 use crate::frame::Frame;
 use crate::random::Random;
@@ -90,6 +90,23 @@ impl Asked {
     }
 }
 
+/// A call that changes a panel at a node: its name, what a request file calls it, and how either program does it.
+pub struct Change {
+    call: &'static str,
+    pub request: &'static str,
+    second: fn(&mut Panel, u32) -> Answer<()>,
+    exports: fn(&mut [u8], u32, u32) -> (u32, u32),
+}
+
+pub const SPLIT: Change =
+    Change { call: "panel_split", request: "split", second: Panel::split, exports: exports::split };
+pub const MERGE: Change =
+    Change { call: "panel_merge", request: "merge", second: Panel::merge, exports: exports::merge };
+pub const PIN: Change =
+    Change { call: "panel_pin", request: "pin", second: Panel::pin, exports: exports::pin };
+pub const UNPIN: Change =
+    Change { call: "panel_unpin", request: "unpin", second: Panel::unpin, exports: exports::unpin };
+
 /// What a call is asked beside the panel, if anything: its kind and its number.
 type What = Option<(&'static str, u32)>;
 
@@ -162,6 +179,17 @@ impl<'a> Subject<'a> {
         }
     }
 
+    /// Counts a merge that both refused for pins, if one alone is why.
+    fn count_pin(&mut self, node: u32) {
+        let pinned = self.panel.as_ref().map(Panel::pinned).expect("the second program reads pins in it");
+        let mut leaves = merged_away(node);
+        leaves[..2].sort_by_key(|leaf| *leaf != node); // itself first, then its sibling
+        let places: Vec<usize> = (0..leaves.len()).filter(|place| pinned.contains(&leaves[*place])).collect();
+        if let [place] = places[..] {
+            self.tally.pin(place);
+        }
+    }
+
     /// A call that only reads, and tells no ancestor.
     fn reading<T: PartialEq + Debug + Default>(
         &mut self,
@@ -186,8 +214,7 @@ impl<'a> Subject<'a> {
 
     pub fn leaf_bits(&mut self) -> Compared {
         let exports = exports::leaf_bits(self.frame.lent(), JUNK);
-        let bytes = self.frame.original().len();
-        self.reading("panel_leaf_bits", None, exports, |_| Ok((bytes / 4 * 3, bytes / 4)))
+        self.reading("panel_leaf_bits", None, exports, |p| Ok(p.leaf_bytes()))
     }
 
     pub fn leaf(&mut self, number: u32) -> Compared {
@@ -195,13 +222,29 @@ impl<'a> Subject<'a> {
         self.reading("panel_leaf", Some(("number", number)), exports, |p| p.leaf_at(number))
     }
 
+    /// A call that only reads, at a node, and tells a number and an ancestor.
+    fn reading_at(
+        &mut self,
+        call: &'static str,
+        node: u32,
+        exports: (u32, (u32, u32)),
+        second: impl Fn(&Panel) -> Answer<u32>,
+    ) -> Compared {
+        let second = told_with_ancestor(self.by_second(second));
+        self.same(call, Some(("node", node)), exports, second, None)?;
+        let (_, (_, ancestor)) = second;
+        self.count_ancestor(call, node, ancestor);
+        Ok(())
+    }
+
     pub fn number(&mut self, node: u32) -> Compared {
         let exports = exports::number(self.frame.lent(), node, JUNK);
-        let second = told_with_ancestor(self.by_second(|p| p.number_of(node)));
-        self.same("panel_number", Some(("node", node)), exports, second, None)?;
-        let (_, (_, ancestor)) = second;
-        self.count_ancestor("panel_number", node, ancestor);
-        Ok(())
+        self.reading_at("panel_number", node, exports, |p| p.number_of(node))
+    }
+
+    pub fn pinned(&mut self, node: u32) -> Compared {
+        let exports = exports::pinned(self.frame.lent(), node, JUNK);
+        self.reading_at("panel_pinned", node, exports, |p| p.is_pinned(node).map(u32::from))
     }
 
     pub fn open(&mut self, depth: u32) -> Compared {
@@ -212,39 +255,24 @@ impl<'a> Subject<'a> {
     }
 
     /// What a change makes of the panel, as the second program does it.
-    fn after(&self, change: impl Fn(&mut Panel) -> Answer<()>) -> Answer<Panel> {
+    fn after(&self, change: &Change, node: u32) -> Answer<Panel> {
         let mut panel = self.panel.clone()?;
-        change(&mut panel)?;
+        (change.second)(&mut panel, node)?;
         Ok(panel)
     }
 
-    /// A split or a merge: the answer, the ancestor and the bytes.
-    fn changing(
-        &mut self,
-        call: &'static str,
-        node: u32,
-        exports: (u32, u32),
-        after: &Answer<Panel>,
-    ) -> Compared {
+    /// A call that changes the panel: the answer, the ancestor and the bytes. It hands back what the second program makes of it.
+    pub fn change(&mut self, change: &Change, node: u32) -> Result<Answer<Panel>, Difference> {
+        let after = self.after(change, node);
         let done = after.as_ref().map(|_| ()).map_err(|refusal| *refusal);
         let (second, ((), ancestor)) = told_with_ancestor(done);
         let bytes = after.as_ref().ok().map(Panel::bytes);
-        self.same(call, Some(("node", node)), exports, (second, ancestor), bytes.as_deref())?;
-        self.count_ancestor(call, node, ancestor);
-        Ok(())
-    }
-
-    pub fn split(&mut self, node: u32) -> Result<Answer<Panel>, Difference> {
-        let after = self.after(|p| p.split(node));
-        let exports = exports::split(self.frame.lent(), node, JUNK);
-        self.changing("panel_split", node, exports, &after)?;
-        Ok(after)
-    }
-
-    pub fn merge(&mut self, node: u32) -> Result<Answer<Panel>, Difference> {
-        let after = self.after(|p| p.merge(node));
-        let exports = exports::merge(self.frame.lent(), node, JUNK);
-        self.changing("panel_merge", node, exports, &after)?;
+        let exports = (change.exports)(self.frame.lent(), node, JUNK);
+        self.same(change.call, Some(("node", node)), exports, (second, ancestor), bytes.as_deref())?;
+        self.count_ancestor(change.call, node, ancestor);
+        if done == Err(LEAF_PINNED) {
+            self.count_pin(node);
+        }
         Ok(after)
     }
 
@@ -255,14 +283,16 @@ impl<'a> Subject<'a> {
         self.leaf_bits()?;
         asked.numbers.iter().try_for_each(|number| self.leaf(*number))?;
         asked.nodes.iter().try_for_each(|node| self.number(*node))?;
+        asked.nodes.iter().try_for_each(|node| self.pinned(*node))?;
         asked.depths.iter().try_for_each(|depth| self.open(*depth))
     }
 
     pub fn every_call(&mut self, asked: &Asked) -> Compared {
         self.reads(asked)?;
         for node in &asked.nodes {
-            self.split(*node)?.ok();
-            self.merge(*node)?.ok();
+            for change in [SPLIT, MERGE, PIN, UNPIN] {
+                self.change(&change, *node)?.ok();
+            }
         }
         Ok(())
     }

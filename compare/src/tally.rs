@@ -1,7 +1,7 @@
 //! What was compared, and the first difference.
 
 use std::collections::BTreeMap;
-use std::fmt::Debug;
+use std::fmt::{Debug, Display};
 
 use second::triangles::GREATEST_DEPTH;
 
@@ -19,27 +19,25 @@ struct Depth {
     most_leaves: usize,
 }
 
+/// The leaves that a merge removes, "on either side".
+const MERGED_AWAY: [&str; 4] = ["itself", "its sibling", "the left one across", "the right one across"];
+
 #[derive(Default)]
 pub struct Tally {
     answers: BTreeMap<(&'static str, u32), u64>,
     distances: BTreeMap<(&'static str, u32), u64>,
+    pins: [u64; MERGED_AWAY.len()],
     depths: BTreeMap<u32, Depth>,
     other_lengths: u64,
     known: u64,
 }
 
-/// Prints how often a call gave each number; whether it gave all.
-fn print_seen(
-    call: &'static str,
-    what: &str,
-    numbers: &[u32],
-    seen: &BTreeMap<(&'static str, u32), u64>,
-) -> bool {
+/// Prints how often each was seen of what a call can give; whether all were.
+fn print_seen<N: Display>(call: &str, what: &str, seen: impl Iterator<Item = (N, u64)>) -> bool {
     let mut line = format!("{call:<16}{what}");
     let mut complete = true;
-    for number in numbers {
-        let seen = seen.get(&(call, *number)).copied().unwrap_or(0);
-        line += &format!("  {number}: {seen}");
+    for (name, seen) in seen {
+        line += &format!("  {name}: {seen}");
         if seen == 0 {
             line += " NEVER SEEN";
             complete = false;
@@ -81,6 +79,11 @@ impl Tally {
         *self.distances.entry((call, levels)).or_default() += 1;
     }
 
+    /// Counts a merge that both refused for one pin: that of the leaf itself, of its sibling, of the left or of the right one across.
+    pub fn pin(&mut self, place: usize) {
+        self.pins[place] += 1;
+    }
+
     /// Counts a known value that both gave.
     pub fn known(&mut self) {
         self.known += 1;
@@ -99,17 +102,26 @@ impl Tally {
         }
     }
 
-    /// Prints the cases by call and answer; whether every answer that a call has was seen, and an ancestor at every distance.
-    pub fn print(&self) -> bool {
+    /// Prints the cases by call and answer; whether every answer that a call has was seen, an ancestor at every distance, and a pin on
+    /// each leaf that refuses a merge.
+    fn print_cases(&self) -> bool {
         let mut complete = true;
         for (call, answers) in CALLS {
-            complete &= print_seen(call, "", answers, &self.answers);
+            let seen = answers.iter().map(|n| (n, self.answers.get(&(*call, *n)).copied().unwrap_or(0)));
+            complete &= print_seen(call, "", seen);
         }
-        // from a leaf of depth 1 to a node of the greatest depth
-        let levels: Vec<u32> = (1..GREATEST_DEPTH).collect();
         for call in WITH_ANCESTOR {
-            complete &= print_seen(call, "  ancestor, levels above", &levels, &self.distances);
+            // from a leaf of depth 1 to a node of the greatest depth
+            let levels = 1..GREATEST_DEPTH;
+            let seen = levels.map(|n| (n, self.distances.get(&(*call, n)).copied().unwrap_or(0)));
+            complete &= print_seen(call, "  ancestor, levels above", seen);
         }
+        complete & print_seen("panel_merge", "  one pin, on", MERGED_AWAY.iter().zip(self.pins))
+    }
+
+    /// Prints all that was compared; whether nothing was missing.
+    pub fn print(&self) -> bool {
+        let complete = self.print_cases();
         for (depth, row) in &self.depths {
             println!(
                 "depth {depth:>2}: {} panels, {} good, up to {} leaves",
