@@ -33,9 +33,18 @@ static inline void put_word(uint8_t *bytes, uint32_t deep, uint32_t node, uint32
     memcpy(bytes + start / 8, &x, sizeof x);
 }
 
+/* The place of the leaf bit that a node has as a leaf, and of its pin: the pins come right behind the leaf bits, in the same order. */
 static inline size_t leaf_bit(uint32_t deep, uint32_t node) {
     return ((size_t)2 << deep) + ((size_t)node << (deep - depth(node)));
 }
+
+static inline size_t pin_bit(uint32_t deep, uint32_t node) { return leaf_bit(deep, node) + ((size_t)1 << deep); }
+
+static inline int is_set(const uint8_t *bytes, size_t bit) { return bytes[bit / 8] >> (bit % 8) & 1; }
+
+static inline void set(uint8_t *bytes, size_t bit) { bytes[bit / 8] |= (uint8_t)(1u << (bit % 8)); }
+
+static inline void clear(uint8_t *bytes, size_t bit) { bytes[bit / 8] &= (uint8_t)~(1u << (bit % 8)); }
 
 /* Algorithm 1, with the left child's word both compared and subtracted. */
 uint32_t c_leaf(const uint8_t *bytes, uint32_t deep, uint32_t number) {
@@ -106,35 +115,47 @@ struct triangle c_corners(uint32_t node) {
     return (struct triangle){{{ax, ay}, {bx, by}, {cx, cy}}};
 }
 
+/* Sets the leaf bit of the right child, unless the node is cut already. A pin is copied to it; the left child has the node's own bits. */
 static inline void split_node(uint8_t *bytes, uint32_t deep, uint32_t node) {
-    size_t bit = leaf_bit(deep, 2 * node + 1);
-    bytes[bit / 8] |= (uint8_t)(1u << (bit % 8));
+    uint32_t right = 2 * node + 1;
+    if (is_set(bytes, leaf_bit(deep, right)))
+        return;
+    set(bytes, leaf_bit(deep, right));
+    if (is_set(bytes, pin_bit(deep, node)))
+        set(bytes, pin_bit(deep, right));
 }
 
-static inline void merge_node(uint8_t *bytes, uint32_t deep, uint32_t node) {
-    size_t bit = leaf_bit(deep, node | 1);
-    bytes[bit / 8] &= (uint8_t)~(1u << (bit % 8));
+static inline void merge_node(uint8_t *bytes, uint32_t deep, uint32_t node) { clear(bytes, leaf_bit(deep, node | 1)); }
+
+/* Algorithm 7, the cuts alone, the coarsest first: a node is a leaf when it is cut, so that its pin is in its place. */
+static void cut(uint8_t *bytes, uint32_t deep, uint32_t node) {
+    if (node <= 1)
+        return;
+    uint32_t across = around(node).edge;
+    if (across != 0) {
+        cut(bytes, deep, across / 2);
+        split_node(bytes, deep, across);
+    }
+    split_node(bytes, deep, node);
 }
 
 /* Algorithm 7, then all sums. */
 void c_split(uint8_t *bytes, uint32_t deep, uint32_t node) {
-    split_node(bytes, deep, node);
-    node = around(node).edge;
-    while (node > 1) {
-        split_node(bytes, deep, node);
-        node /= 2;
-        split_node(bytes, deep, node);
-        node = node > 1 ? around(node).edge : 0;
-    }
+    cut(bytes, deep, node);
     c_sums(bytes, deep);
 }
 
-/* Algorithm 8, then all sums. At the border there is no pair across. */
+/* Whether a node is a leaf that is not pinned. */
+static inline int goes(const uint8_t *bytes, uint32_t deep, uint32_t node) {
+    return word(bytes, deep, node) == 1 && !is_set(bytes, pin_bit(deep, node));
+}
+
+/* Algorithm 8, unless a leaf that would go is pinned, then all sums. At the border there is no pair across. */
 void c_merge(uint8_t *bytes, uint32_t deep, uint32_t node) {
     uint32_t across = around(node / 2).edge;
-    if (word(bytes, deep, node ^ 1) != 1)
+    if (is_set(bytes, pin_bit(deep, node)) || !goes(bytes, deep, node ^ 1))
         return;
-    if (across != 0 && (word(bytes, deep, 2 * across) != 1 || word(bytes, deep, 2 * across + 1) != 1))
+    if (across != 0 && (!goes(bytes, deep, 2 * across) || !goes(bytes, deep, 2 * across + 1)))
         return;
     merge_node(bytes, deep, node);
     if (across != 0)

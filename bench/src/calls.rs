@@ -52,7 +52,7 @@ fn count_calls(panel: &Panel, numbers: &[u32], nodes: &[u32]) {
     });
 }
 
-/// A split or a merge of each leaf, by both sides.
+/// A split or a merge of each leaf, by both sides, which leave the same bytes.
 fn count_changes(
     start: &Panel,
     asked: &[u32],
@@ -65,6 +65,7 @@ fn count_changes(
             ours(a.lent_mut(), start.deep, *k);
             ordinary(&mut b.bytes, start.deep, *k);
         });
+        assert!(a.bytes == b.bytes && a.bytes != start.bytes, "{k}: the same bytes");
     }
 }
 
@@ -79,7 +80,7 @@ pub fn make(deep: u32, kind: Kind) {
     let merge = panel.some_leaves(CHANGED, ours::merge);
     count_calls(&panel, &numbers, &nodes);
     count_changes(&start, &split, ours::split, ordinary::ordinary_split);
-    count_changes(&panel, &merge, ours::merge, ordinary::ordinary_merge);
+    count_changes(&rows::to_merge(&panel, &merge), &merge, ours::merge, ordinary::ordinary_merge);
 
     // A split or merge makes the ordinary sums once more.
     let sums = 1 + split.len() + merge.len();

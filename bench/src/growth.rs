@@ -1,4 +1,4 @@
-//! Cost in step with the panel's bytes: nanoseconds a byte, from depth 3 to the greatest.
+//! Cost in step with the panel's bytes, its pins among them: nanoseconds a byte, from depth 3 to the greatest.
 
 use std::time::Duration;
 

@@ -39,12 +39,33 @@ fn put_word(bytes: &mut [u8], deep: u32, node: u32, value: u32) {
     }
 }
 
-/// The byte of a leaf bit, and the bit's weight in it.
+/// The place of the leaf bit that a node has as a leaf.
 #[inline(always)]
-fn leaf_bit(bytes: &mut [u8], deep: u32, node: u32) -> (&mut u8, u8) {
-    let bit = (2usize << deep) + ((node as usize) << (deep - depth(node)));
-    // SAFETY: the leaf bits are the panel's last.
-    (unsafe { bytes.get_unchecked_mut(bit / 8) }, 1 << (bit % 8))
+fn leaf_bit(deep: u32, node: u32) -> usize {
+    (2usize << deep) + ((node as usize) << (deep - depth(node)))
+}
+
+/// The place of its pin: the pins come right behind the leaf bits, in the same order.
+#[inline(always)]
+fn pin_bit(deep: u32, node: u32) -> usize {
+    leaf_bit(deep, node) + (1 << deep)
+}
+
+#[inline(always)]
+fn is_set(bytes: &[u8], bit: usize) -> bool {
+    // SAFETY: leaf bits and pins are the panel's, here and below.
+    let byte = unsafe { bytes.get_unchecked(bit / 8) };
+    (byte >> (bit % 8)) & 1 == 1
+}
+
+#[inline(always)]
+fn set(bytes: &mut [u8], bit: usize) {
+    unsafe { *bytes.get_unchecked_mut(bit / 8) |= 1 << (bit % 8) }
+}
+
+#[inline(always)]
+fn clear(bytes: &mut [u8], bit: usize) {
+    unsafe { *bytes.get_unchecked_mut(bit / 8) &= !(1 << (bit % 8)) }
 }
 
 /// Algorithm 1, with the left child's word both compared and subtracted.
@@ -242,30 +263,34 @@ pub fn ordinary_corners_by_matrices(node: u32) -> Triangle {
     counterclockwise(node, points)
 }
 
-/// Algorithm 12: sets the leaf bit of the right child.
+/// Algorithm 12: sets the leaf bit of the right child, unless the node is cut already. A pin is copied to it; the left child has the
+/// node's own bits.
 #[inline(always)]
 fn split_node(bytes: &mut [u8], deep: u32, node: u32) {
-    let (byte, weight) = leaf_bit(bytes, deep, 2 * node + 1);
-    *byte |= weight;
+    let right = 2 * node + 1;
+    if !is_set(bytes, leaf_bit(deep, right)) {
+        set(bytes, leaf_bit(deep, right));
+        if is_set(bytes, pin_bit(deep, node)) {
+            set(bytes, pin_bit(deep, right));
+        }
+    }
 }
 
 /// Algorithm 12: clears the leaf bit of the right one of a node and its sibling.
 #[inline(always)]
 fn merge_node(bytes: &mut [u8], deep: u32, node: u32) {
-    let (byte, weight) = leaf_bit(bytes, deep, node | 1);
-    *byte &= !weight;
+    clear(bytes, leaf_bit(deep, node | 1));
 }
 
-/// Algorithm 7, the cuts alone.
-#[inline(always)]
+/// Algorithm 7, the cuts alone, the coarsest first: a node is a leaf when it is cut, so that its pin is in its place.
 pub fn cut(bytes: &mut [u8], deep: u32, node: u32) {
-    split_node(bytes, deep, node);
-    let mut node = around(node).edge;
-    while node > 1 {
+    if node > 1 {
+        let across = around(node).edge;
+        if across != 0 {
+            cut(bytes, deep, across / 2);
+            split_node(bytes, deep, across);
+        }
         split_node(bytes, deep, node);
-        node /= 2;
-        split_node(bytes, deep, node);
-        node = if node > 1 { around(node).edge } else { 0 };
     }
 }
 
@@ -277,13 +302,14 @@ pub fn ordinary_split(bytes: &mut [u8], deep: u32, node: u32) {
     ordinary_sums(bytes, deep);
 }
 
-/// Algorithm 8, then all sums. At the border there is no pair across.
+/// Algorithm 8, unless a leaf that would go is pinned, then all sums. At the border there is no pair across.
 #[no_mangle]
 #[inline(never)]
 pub fn ordinary_merge(bytes: &mut [u8], deep: u32, node: u32) {
     let across = around(node / 2).edge;
-    let leaf = |node| word(bytes, deep, node) == 1;
-    if leaf(node ^ 1) && (across == 0 || (leaf(2 * across) && leaf(2 * across + 1))) {
+    let free = |node| !is_set(bytes, pin_bit(deep, node));
+    let goes = |node| word(bytes, deep, node) == 1 && free(node);
+    if free(node) && goes(node ^ 1) && (across == 0 || (goes(2 * across) && goes(2 * across + 1))) {
         merge_node(bytes, deep, node);
         if across != 0 {
             merge_node(bytes, deep, 2 * across + 1);
@@ -329,13 +355,22 @@ pub fn count(bytes: &[u8], deep: u32) -> u32 {
     word(bytes, deep, 1)
 }
 
-/// A fresh panel: the depth word, the leaves 2 and 3, all sums.
+/// Pins a leaf.
+pub fn pin(bytes: &mut [u8], deep: u32, node: u32) {
+    set(bytes, pin_bit(deep, node));
+}
+
+/// Takes a leaf's pin away.
+pub fn unpin(bytes: &mut [u8], deep: u32, node: u32) {
+    clear(bytes, pin_bit(deep, node));
+}
+
+/// A fresh panel: the depth word, the leaves 2 and 3, all sums, no pin.
 pub fn open(bytes: &mut [u8], deep: u32) {
     bytes.fill(0);
     bytes[..4].copy_from_slice(&(deep << 2).to_le_bytes());
     for node in [2, 3] {
-        let (byte, weight) = leaf_bit(bytes, deep, node);
-        *byte |= weight;
+        set(bytes, leaf_bit(deep, node));
     }
     ordinary_sums(bytes, deep);
 }

@@ -5,9 +5,12 @@ use crate::{ordinary, ours};
 /// The greatest depth that the calls take.
 pub const DEEPEST: u32 = 17;
 
-/// The bytes of a panel of a depth.
+/// The greatest depth that the program opens: its buffer has 65,536 bytes.
+pub const DEEPEST_OPENED: u32 = 16;
+
+/// The bytes of a panel of a depth: its words, and then a pin bit for each leaf bit.
 pub const fn size(deep: u32) -> usize {
-    1 << (deep - 1)
+    (1 << (deep - 1)) + (1 << (deep - 3))
 }
 
 /// How much of a panel is cut.
@@ -41,16 +44,24 @@ pub struct Panel {
 }
 
 impl Panel {
+    /// Every fourth leaf is pinned, so that the judge has pins to hold against leaf bits, and splits pass some on; but none of a
+    /// fresh panel, which is as open writes it. What a merge is to take away is unpinned where merges are measured.
     pub fn new(deep: u32, kind: Kind) -> Panel {
         let mut panel = Panel { deep, bytes: vec![0; size(deep) + ordinary::SPARE] };
         ordinary::open(&mut panel.bytes, deep);
         match kind {
-            Kind::Fresh => {}
+            Kind::Fresh => return panel.good(),
             Kind::Adaptive => panel.refine(|[a, b, c]| a[0] == 0 || b[0] == 0 || c[0] == 0),
             Kind::Full => panel.refine(|_| true),
         }
-        assert_eq!(ours::judge(panel.lent()), 0, "the panel is good");
-        panel
+        panel.leaves().into_iter().step_by(4).for_each(|k| panel.pin(k));
+        panel.good()
+    }
+
+    /// The panel, judged.
+    fn good(self) -> Panel {
+        assert_eq!(ours::judge(self.lent()), 0, "the panel is good");
+        self
     }
 
     /// Splits leaves that are chosen by their corners until all that are left have the greatest depth.
@@ -88,10 +99,20 @@ impl Panel {
         self.leaves().into_iter().filter(|k| depth(*k) < self.deep).collect()
     }
 
-    /// Up to `most` leaves that a call answers 0 for, spread over the panel.
+    pub fn pin(&mut self, leaf: u32) {
+        ordinary::pin(&mut self.bytes, self.deep, leaf);
+    }
+
+    pub fn unpin(&mut self, leaf: u32) {
+        ordinary::unpin(&mut self.bytes, self.deep, leaf);
+    }
+
+    /// Up to `most` leaves that a call answers 0 for where no leaf is pinned, spread over the panel.
     pub fn some_leaves(&self, most: usize, call: impl Fn(&mut [u8], u32, u32) -> u32) -> Vec<u32> {
         let leaves = self.leaves();
-        let allowed = |k: &u32| call(self.clone().lent_mut(), self.deep, *k) == 0;
+        let mut free = self.clone();
+        leaves.iter().for_each(|k| free.unpin(*k));
+        let allowed = |k: &u32| call(free.clone().lent_mut(), free.deep, *k) == 0;
         let step = leaves.len().div_ceil(4 * most);
         let allowed: Vec<u32> = leaves.into_iter().step_by(step).filter(allowed).collect();
         let step = allowed.len().div_ceil(most).max(1);

@@ -2,7 +2,7 @@
 
 use std::path::{Path, PathBuf};
 
-use bench::panels::{depth, Kind, Panel, Random, DEEPEST};
+use bench::panels::{depth, Kind, Panel, Random, DEEPEST_OPENED};
 use bench::{ordinary, ours};
 
 /// As many records as the scanner reads at most.
@@ -123,9 +123,9 @@ fn why_not_full(deep: u32, requests: &Requests) -> String {
 /// Writes the files into a folder.
 pub fn write(folder: &Path) -> [Input; 2] {
     std::fs::create_dir_all(folder).expect("the folder can be made");
-    let (random, most) = (random(DEEPEST), most_leaves(NEARLY_FULL));
+    let (random, most) = (random(DEEPEST_OPENED), most_leaves(NEARLY_FULL));
     let of_random = format!(
-        "splits and merges of leaves that look random, at D = {DEEPEST}, five splits to a merge; {} leaves are left.",
+        "splits and merges of leaves that look random, at D = {DEEPEST_OPENED}, five splits to a merge; {} leaves are left.",
         random.leaves()
     );
     let of_most = why_not_full(NEARLY_FULL, &most);

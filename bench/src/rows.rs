@@ -68,7 +68,7 @@ pub fn points(t: Triangle) -> u64 {
 fn sums<S: Ordinary>(long: Duration, panel: &Panel) -> Vec<Row> {
     let deep = panel.deep;
     let mut one = panel.clone();
-    let leaf_bits = 3 * one.lent().len() / 4;
+    let leaf_bits = 3 << (deep - 3);
     one.bytes[4..leaf_bits].fill(0);
     let mut other = one.clone();
     ours::make_sums(one.lent_mut(), deep);
@@ -189,12 +189,31 @@ fn change(
     Row { what, target: Some(1.0), times: (!times.is_empty()).then(|| Times::mean(&times)) }
 }
 
-/// The panel that splits are measured on: the same, or, where no leaf of it can be split, after one merge in its middle.
+/// The panel that splits are measured on: the same, or, where no leaf of it can be split, after one merge in its middle. What
+/// comes back there is pinned on one side, so that each split passes a pin on.
 pub fn to_split(panel: &Panel) -> Panel {
+    if !panel.cuttable().is_empty() {
+        return panel.clone();
+    }
+    let leaves = panel.leaves();
+    let middle = leaves[leaves.len() / 3];
+    let mut start = to_merge(panel, &[middle]);
+    assert_eq!(ours::merge(start.lent_mut(), panel.deep, middle), 0);
+    start.pin(middle / 2);
+    start
+}
+
+/// The panel that merges of these leaves are measured on: the same, with no pin on what one of them takes away, a leaf and its
+/// sibling and the two across. The other pins stay, so that it shows if a merge changes one.
+pub fn to_merge(panel: &Panel, asked: &[u32]) -> Panel {
     let mut start = panel.clone();
-    if start.cuttable().is_empty() {
-        let middle = start.leaves()[start.leaves().len() / 3];
-        assert_eq!(ours::merge(start.lent_mut(), panel.deep, middle), 0);
+    for parent in asked.iter().map(|k| k / 2) {
+        for parent in [parent, ours::edge(parent)] {
+            if parent != 0 {
+                start.unpin(2 * parent);
+                start.unpin(2 * parent + 1);
+            }
+        }
     }
     start
 }
@@ -203,9 +222,10 @@ fn changes<S: Ordinary>(long: Duration, panel: &Panel) -> Vec<Row> {
     let start = to_split(panel);
     let asked = start.some_leaves(LEAVES, ours::split);
     let asked = if asked.is_empty() { start.cuttable() } else { asked };
+    let merged = panel.some_leaves(LEAVES, ours::merge);
     vec![
         change(long, "a judged split", &start, &asked, ours::split, S::split),
-        change(long, "a judged merge", panel, &panel.some_leaves(LEAVES, ours::merge), ours::merge, S::merge),
+        change(long, "a judged merge", &to_merge(panel, &merged), &merged, ours::merge, S::merge),
     ]
 }
 

@@ -3,13 +3,13 @@
 use std::io::{self, BufWriter, Read, Write};
 
 use bench::ordinary;
-use bench::panels::{size, DEEPEST};
+use bench::panels::{size, DEEPEST_OPENED};
 
 fn main() -> io::Result<()> {
     let mut input = Vec::new();
     io::stdin().lock().take(8 * 4096).read_to_end(&mut input)?;
     let mut out = BufWriter::new(io::stdout().lock());
-    let mut bytes = [0; size(DEEPEST) + ordinary::SPARE];
+    let mut bytes = [0; size(DEEPEST_OPENED) + ordinary::SPARE];
     let mut deep = 0;
     for (i, record) in input.chunks_exact(8).enumerate() {
         let number = u32::from_le_bytes([record[4], record[5], record[6], record[7]]);
@@ -19,7 +19,9 @@ fn main() -> io::Result<()> {
                 ordinary::open(&mut bytes, deep);
             }
             1 => ordinary::ordinary_split(&mut bytes, deep, number),
-            _ => ordinary::ordinary_merge(&mut bytes, deep, number),
+            2 => ordinary::ordinary_merge(&mut bytes, deep, number),
+            3 => ordinary::pin(&mut bytes, deep, number),
+            _ => ordinary::unpin(&mut bytes, deep, number),
         }
         writeln!(out, "{} 0", i + 1)?;
     }
