@@ -32,6 +32,15 @@ place-child D n l h =
     (ap (λ (x : ℕ). 2 * n * 2 ^ (D - x)) (depth-left n l)
     ∙ first-left (D - suc (depthOf n)) n ∙ ap (λ (x : ℕ). n * 2 ^ x) (let e : suc (D - suc (depthOf n)) ≡ D - depthOf n = omega arith in e))
 
+-- a cut that is not kept is one of those that are taken back
+pub taken : (P : ℕ → Type 0) (q n : ℕ) → P n → (P n × (n ≢ q) × (n ≢ edge q) → ⊥) → (n ≡ q) ⊎ (n ≡ edge q)
+taken P q n c f = go (ℕ-discrete n q) (ℕ-discrete n (edge q))
+  where
+    go : Dec (n ≡ q) → Dec (n ≡ edge q) → (n ≡ q) ⊎ (n ≡ edge q)
+    go (yes i) j = inl i
+    go (no i) (yes j) = inr j
+    go (no i) (no j) = absurd (f (c, i, j))
+
 module _ {s : List ℕ} (G : Good s) {k : ℕ} (U : Unpinned s k) where
   shallow : deepOf s ≤ 32
   shallow = omega (arith, fits-small (G .fits))
@@ -70,14 +79,9 @@ module _ {s : List ℕ} (G : Good s) {k : ℕ} (U : Unpinned s k) where
     pub pins-kept : PinsKept s t
     pins-kept m K = go (dec-cuts G m)
       where
-        back : CutOf s m → Dec (m ≡ k / 2) → Dec (m ≡ edge (k / 2)) → (m ≡ k / 2) ⊎ (m ≡ edge (k / 2))
-        back c (yes e) f = inl e
-        back c (no e) (yes f) = inr f
-        back c (no e) (no f) = absurd (K .uncut (cuts m .1 (c, e, f)))
-
         gone : CutOf s m → Pinned t m → ⊥
         gone c p =
-            bare m (back c (ℕ-discrete m (k / 2)) (ℕ-discrete m (edge (k / 2)))) c .left
+            bare m (taken (CutOf s) (k / 2) m c (λ x. K .uncut (cuts m .1 x))) c .left
             (ap (pinBit (deepOf s) s) (place-child (deepOf s) m (cut-low (deepOf s) (leafBit (deepOf s) s) shallow m c) (cut-depth (deepOf s) (leafBit (deepOf s) s) shallow m c))
             ∙ sym (same m) ∙ p)
 

@@ -1,4 +1,6 @@
 pub mod AtWork
 pub mod Keeping
+pub mod Merging
 pub mod Passing
+pub mod Splitting
 pub mod ToMerge

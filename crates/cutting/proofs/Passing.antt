@@ -24,16 +24,14 @@ use Rattle.pins.proofs.PinBits.{pin-lt, pin-room-same, pin-put-same, pin-put-ot
 use Rattle.panel.specs.Panels.{deepOf, CutOf, Good, LeafOf}
 use Rattle.panel.specs.Calls.{PinsPassed}
 use Rattle.cutting.specs.inner.Changing.{CutUnder, AtWork, CutIn, PinsStay}
-use Rattle.panel.proofs.Lengths.{fits-small, fits-pins}
+use Rattle.panel.proofs.Lengths.{fits-small}
 use Rattle.panel.proofs.SameBytes.{deep-same}
 use Rattle.panel.proofs.GoodPanels.{good-bits}
+use Rattle.cutting.proofs.AtWork.{work-pins}
 
 module _ {s : List ℕ} (G : Good s) where
   pub stay-start : PinsStay s s
   stay-start = record { over = λ p h. refl; on = G .pins }
-
-  pub work-pins : {bs : List ℕ} → AtWork s bs → PinRoom (deepOf s) bs
-  work-pins w = pin-room-same (w .long) (fits-pins s (deepOf s) (G .fits))
 
   -- ---- a cut below leaf l
 
@@ -66,14 +64,14 @@ module _ {s : List ℕ} (G : Good s) where
       half = putLeafBit (deepOf s) bs (c .place) 1
 
       room : PinRoom (deepOf s) half
-      room = pin-room-same (length-put-leaf (deepOf s) bs (c .place) 1) (work-pins w)
+      room = pin-room-same (length-put-leaf (deepOf s) bs (c .place) 1) (work-pins G w)
 
       passed-on : PassedOn (2 ^ deepOf s) (leafBit (deepOf s) bs) (pinBit (deepOf s) bs) (leafBit (deepOf s) ys) (pinBit (deepOf s) ys) (c .place)
       passed-on = rw (c .put) (record {
         low = c .at .low;
         here =
             leaf-put-pin (deepOf s) half (c .place) (pinBit (deepOf s) bs (placeOf (deepOf s) l)) v-lt (c .place) (c .at .high)
-            ∙ leaf-put-same (deepOf s) bs (c .place) 1 (omega arith) (work-pins w .words) (c .at .high);
+            ∙ leaf-put-same (deepOf s) bs (c .place) 1 (omega arith) (work-pins G w .words) (c .at .high);
         pin =
             pin-put-same (deepOf s) half (c .place) (pinBit (deepOf s) bs (placeOf (deepOf s) l)) v-lt room (c .at .high)
             ∙ leaf-pin l L ∙ sym (over-cut (deepOf s) (leafBit (deepOf s) s) (good-bits s G) l L (pinBit (deepOf s) s) i n (c .place) up (c .at))

@@ -13,10 +13,9 @@ use Rattle.panel.specs.Panels.{CutOf, Good, LeafOf, pinOf, Pinned}
 use Rattle.panel.specs.Calls.{Split, Bare, Merge, PinAt, Pin, Unpin}
 use Rattle.panel.proofs.GoodPanels.{dec-cuts, leaf-before}
 use Rattle.panel.proofs.Pinning.{pinned-cuts, pinned-other, put-leaf, put-stays}
-use Rattle.cutting.proofs.AtWork.{together-mergeable}
+use Rattle.cutting.proofs.Merging.{together-mergeable, removed}
 use Rattle.cutting.proofs.Keeping.{bare}
 use Rattle.evidence.proofs.Inside.{InsideBy, left-in, same-leaf, leaf-inside}
-use Rattle.evidence.proofs.ThereAndBack.{removed}
 use Rattle.evidence.proofs.Sequences.{SplitDone, split-done, MergeDone, merge-done, stays-good}
 
 -- in panel t node l is a leaf or is cut, and every leaf inside it is pinned
@@ -138,7 +137,7 @@ or-kept {n = n} {l} {t} {u} H o f = go (ℕ-discrete n 0)
 
 -- ---- any run of calls
 
-pub since-good : {s t : List ℕ} {l : ℕ} → Good s → Since s l t → Good t
+since-good : {s t : List ℕ} {l : ℕ} → Good s → Since s l t → Good t
 since-good G start = G
 since-good G (split r o) = stays-good (λ x d. d .good) (since-good G r) o
 since-good G (merged r o) = stays-good (λ x d. d .good) (since-good G r) o
@@ -147,9 +146,9 @@ since-good G (unpinned r o f) = put-stays (omega arith) (since-good G r) o .0
 
 pub never-covered : {s t : List ℕ} {l : ℕ} → Good s → LeafOf s l → Pinned s l → Since s l t → Held t l
 never-covered G L p start = held-first G L p
-never-covered {l = l} G L p (split {t} {u} {k} r o) =
+never-covered G L p (split {t} {u} {k} r o) =
     let H = never-covered G L p r in or-kept H o (λ z. held-split (since-good G r) H (subst (λ x. Split t k x u) z o))
-never-covered {l = l} G L p (merged {t} {u} {k} r o) =
+never-covered G L p (merged {t} {u} {k} r o) =
     let H = never-covered G L p r in or-kept H o (λ z. held-merge (since-good G r) H (subst (λ x. Merge t k x u) z o))
 never-covered G L p (pinned r o) =
     let H = never-covered G L p r in or-kept H o (λ z. held-put (since-good G r) H (omega arith) (put-leaf o z) (o .done z) (λ w. absurd (w refl)))

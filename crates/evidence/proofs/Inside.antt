@@ -14,11 +14,11 @@ abbrev pub InsideBy : ℕ → ℕ → ℕ → Type 0
 InsideBy j m l = m / 2 ^ j ≡ l
 
 -- levels add up
-pub levels-add : (i j m : ℕ) → m / 2 ^ i / 2 ^ j ≡ m / 2 ^ (i + j)
+levels-add : (i j m : ℕ) → m / 2 ^ i / 2 ^ j ≡ m / 2 ^ (i + j)
 levels-add i j m = div-div-eq-div-mul m (2 ^ i) (2 ^ j) ∙ ap (λ x. m / x) (sym (pow-add 2 i j))
 
 -- a node is one level below its parent
-pub parent-in : (j n l : ℕ) → InsideBy j (n / 2) l ↔ InsideBy (suc j) n l
+parent-in : (j n l : ℕ) → InsideBy j (n / 2) l ↔ InsideBy (suc j) n l
 parent-in j n l =
     let h : n / 2 / 2 ^ j ≡ n / 2 ^ suc j = levels-add 1 j n ∙ ap (λ x. n / 2 ^ x) (omega arith) in (λ e. sym h ∙ e, λ e. h ∙ e)
 

@@ -21,20 +21,13 @@ use Rattle.panel.proofs.Lengths.{fits-small}
 use Rattle.cuts.proofs.Leaves.{leaf-same}
 use Rattle.panel.proofs.GoodPanels.{dec-cuts, one-of-three}
 use Rattle.panel.proofs.SameBytes.{deep-same, bytes-same}
-use Rattle.cutting.proofs.AtWork.{merging-deep, together-mergeable, mergeable-together}
-use Rattle.cutting.proofs.Keeping.{bare}
+use Rattle.cutting.proofs.Merging.{merging-deep, together-mergeable, mergeable-together, removed}
+use Rattle.cutting.proofs.Keeping.{taken, bare}
 use Rattle.evidence.proofs.Inside.{InsideBy, child-in, left-in, same-leaf, leaf-child}
 
 -- k is pinned, or the leaf is that its edge neighbour is, or lies in
 abbrev pub PinnedAround : List ℕ → ℕ → Type 0
 PinnedAround s k = Pinned s k ⊎ ((edge k ≢ 0) × (n : ℕ) × (j : ℕ) × LeafOf s n × InsideBy j (edge k) n × Pinned s n)
-
--- the children of the cuts that a merge takes back are the leaves that it removes
-pub removed : {s : List ℕ} → Good s → {q : ℕ} → Mergeable (CutOf s) q → (n : ℕ) → (n ≡ q) ⊎ (n ≡ edge q) → CutOf s n → LeafOf s (2 * n) × LeafOf s (2 * n + 1)
-removed {s} G m n (inl e) c = subst⁻¹ (λ x. LeafOf s (2 * x) × LeafOf s (2 * x + 1)) e (m .own)
-removed {s} G m n (inr e) c =
-    subst⁻¹ (λ x. LeafOf s (2 * x) × LeafOf s (2 * x + 1)) e
-    (m .other (λ z. omega (arith, cut-low (deepOf s) (leafBit (deepOf s) s) (omega (arith, fits-small (G .fits))) n c)))
 
 module _ {s t : List ℕ} (G : Good s) {k : ℕ} (l : LeafOf s k) (a : SplitAt s k t) where
   at : At (depthOf k) k
@@ -54,9 +47,6 @@ module _ {s t : List ℕ} (G : Good s) {k : ℕ} (l : LeafOf s k) (a : SplitAt s
   split-together = mergeable-together (a .good) (subst (Mergeable (CutOf t)) (let e : k ≡ 2 * k / 2 = omega arith in e) mergeable)
 
   -- ---- the pins that its merge would meet
-
-  old : (n : ℕ) → CutOf s n → CutOf t n
-  old n c = a .cuts .holds n (inl c)
 
   -- both children have k's pin
   own-pins : (c : ℕ) → c < 2 → LeafOf t (2 * k + c) → Pinned t (2 * k + c) ↔ Pinned s k
@@ -141,15 +131,10 @@ module _ {s t : List ℕ} (G : Good s) {k : ℕ} (l : LeafOf s k) (a : SplitAt s
       pins : (n : ℕ) → LeafOf u n → Pinned u n ↔ Pinned s n
       pins n N = go (dec-cuts (a .good) n)
         where
-          taken : CutOf t n → Dec (n ≡ k) → Dec (n ≡ edge k) → (n ≡ k) ⊎ (n ≡ edge k)
-          taken c (yes i) j = inl i
-          taken c (no i) (yes j) = inr j
-          taken c (no i) (no j) = absurd (N .uncut (kept n .1 (c, i, j)))
-
           go : Dec (CutOf t n) → Pinned u n ↔ Pinned s n
           go (yes c) = (
             λ p. absurd (m .pins n N .0 p .0 .uncut c),
-            λ p. absurd (gone n (taken c (ℕ-discrete n k) (ℕ-discrete n (edge k))) (omega (arith, N .low)) p),
+            λ p. absurd (gone n (taken (CutOf t) k n c (λ x. N .uncut (kept n .1 x))) (omega (arith, N .low)) p),
           )
           go (no c) =
               let T : LeafOf t n = record { low = N .low; uncut = c; parent = kept (n / 2) .0 (N .parent) .0 } in
@@ -193,14 +178,9 @@ module _ {s t : List ℕ} (G : Good s) {k : ℕ} (l : LeafOf s k) (d : 1 < depth
     pins = λ n i j N I e. passed n i j N I e (dec-cuts G n);
   }
     where
-      taken : (n : ℕ) → LeafOf t n → CutOf s n → Dec (n ≡ k / 2) → Dec (n ≡ edge (k / 2)) → (n ≡ k / 2) ⊎ (n ≡ edge (k / 2))
-      taken n N c (yes i) j = inl i
-      taken n N c (no i) (yes j) = inr j
-      taken n N c (no i) (no j) = absurd (N .uncut (m .cuts n .1 (c, i, j)))
-
       passed : (n i j : ℕ) → LeafOf t n → LeafOf s i → InsideBy j i n → Dec (CutOf s n) → Pinned s i ↔ Pinned t n
       passed n i j N I e (yes c) =
-          let o = taken n N c (ℕ-discrete n (k / 2)) (ℕ-discrete n (edge (k / 2))) in
+          let o = taken (CutOf s) (k / 2) n c (λ x. N .uncut (m .cuts n .1 x)) in
           let b = bare G U n o c in (
             λ p. absurd (⊎-elim (λ x. b .left (subst (Pinned s) x p)) (λ x. b .right (subst (Pinned s) x p)) (leaf-child (G .cuts) j c (removed G parent n o c) I e)),
             λ p. absurd (m .pins n N .0 p .0 .uncut c),

@@ -119,6 +119,7 @@ pub record PinAt (s : List ℕ) (k v : ℕ) (t : List ℕ) : Type 0 where
   pub pin : pinOf t k ≡ v
   pub rest : (q : ℕ) → q ≢ pinPlace (deepOf s) (placeOf (deepOf s) k) → bit t q ≡ bit s q
 
+-- pin sets it, and unpin clears it
 abbrev pub PinPut : List ℕ → ℕ → ℕ → ℕ → List ℕ → Type 0
 PinPut s k v n t = Outcome (leafRows s k) (List ℕ) (PinAt s k v) (λ x. x ≡ s) n t
 

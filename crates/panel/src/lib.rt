@@ -3,5 +3,4 @@ pub mod judging; // the depth of a length and of a good panel, and the call `jud
 pub mod sizes; // the length of a panel
 
 pub use judging::judge;
-pub use sizes::GREATEST_SIZE;
 pub use sizes::size;

@@ -12,7 +12,8 @@ use Rattle.nodes.proofs.Edges.{edge-depth}
 use Rattle.cuts.specs.inner.Steps.{NodeOf}
 use Rattle.panel.specs.Panels.{deepOf}
 use Rattle.cutting.specs.inner.Changing.{CutUnder, Holder, AtWork, CutIn, SplitBits}
-use Rattle.cutting.proofs.AtWork.{Splitting, splitting-start, splitting-node, splitting-low, splitting-cut, splitting-last, splitting-step, held-node, holder-node, work-under, room-at, pins-at, under-at, holder-at, cut-at, across-above}
+use Rattle.cutting.proofs.AtWork.{work-under, room-at, pins-at, under-at, holder-at, cut-at}
+use Rattle.cutting.proofs.Splitting.{Splitting, splitting-start, splitting-node, splitting-low, splitting-cut, splitting-last, splitting-step, held-node, holder-node, across-above}
 use Rattle.cutting.proofs.cut_chain.Statement.{statement}
 use Rattle.cutting.proofs.cut_chain.Tie as tie
 

@@ -8,18 +8,6 @@ use Rattle.pins.proofs.PinBits.{pin-lt, pin-room-same}
 use Rattle.cutting.proofs.cut_under.Statement.{statement}
 use Rattle.cutting.proofs.cut_under.Tie as tie
 
-leaf-place-requires : tie.Need-leaf-place-requires
-leaf-place-requires c κs = search needs
-
-pin-requires : tie.Need-pin-requires
-pin-requires c κs = search needs
-
-cut-place-requires : tie.Need-cut-place-requires
-cut-place-requires c κs = search needs
-
-put-leaf-bit-requires : tie.Need-put-leaf-bit-requires
-put-leaf-bit-requires c κs = search needs
-
 put-pin-requires : tie.Need-put-pin-requires
 put-pin-requires c κs =
     let b = c .before .before .before in
@@ -27,9 +15,6 @@ put-pin-requires c κs =
     let v = p .before in
     let a = v .before .before .before .before in
     (pin-room-same (b .put-leaf-bit .kept .0) (a .pre .0), p .cut-place .ensures .high, omega (arith, v .pin .ensures, pin-lt (a .args .deep) (a .args .panel .now) (v .before .leaf-place .result)))
-
-same-length : tie.Need-same-length
-same-length c = search needs
 
 returns : tie.Need-returns
 returns c =
@@ -51,10 +36,10 @@ pub cut-under-spec : {M : Type 1} → statement M
 cut-under-spec =
     tie.close
     (tie.spec
-    leaf-place-requires
-    pin-requires
-    cut-place-requires
-    put-leaf-bit-requires
+    (λ c κs. search needs)
+    (λ c κs. search needs)
+    (λ c κs. search needs)
+    (λ c κs. search needs)
     put-pin-requires
-    same-length
+    (λ c. search needs)
     returns)

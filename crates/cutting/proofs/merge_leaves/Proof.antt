@@ -3,7 +3,8 @@ use native.Mathlib.Omega.{arith}
 use borrow.Author.Needs.{needs}
 use Rattle.panel.specs.Panels.{CutOf}
 use Rattle.cuts.proofs.TakingBack.{Mergeable}
-use Rattle.cutting.proofs.AtWork.{together-mergeable, merging-deep, merge-made, room-at, summed-at}
+use Rattle.cutting.proofs.AtWork.{room-at, summed-at}
+use Rattle.cutting.proofs.Merging.{together-mergeable, merging-deep, merge-made}
 use Rattle.cutting.proofs.merge_leaves.Statement.{statement}
 use Rattle.cutting.proofs.merge_leaves.Tie as tie
 use Prim.Native.Nat.{_/_}
@@ -21,9 +22,6 @@ make-sums-requires c κs =
     let a = t .before .before .before .before in
     room-at (a .pre .0) (a .pre .1) (t .take-back .ensures .work)
 
-same-length : tie.Need-same-length
-same-length c = search needs
-
 returns : tie.Need-returns
 returns c =
     let m = c .before .before in
@@ -32,4 +30,4 @@ returns c =
     merge-made (a .pre .0) (mergeable a) (a .pre .5) (t .take-back .ensures) (summed-at (a .pre .0) (a .pre .1) (m .make-sums .ensures))
 
 pub merge-leaves-spec : {M : Type 1} → statement M
-merge-leaves-spec = tie.close (tie.spec take-back-requires make-sums-requires same-length returns)
+merge-leaves-spec = tie.close (tie.spec take-back-requires make-sums-requires (λ c. search needs) returns)

@@ -1,6 +1,7 @@
 -- The cuts that k's cut forces, then right sums: what is left is the panel that is promised.
 use borrow.Author.Needs.{needs}
-use Rattle.cutting.proofs.AtWork.{split-made, room-at, summed-at}
+use Rattle.cutting.proofs.AtWork.{room-at, summed-at}
+use Rattle.cutting.proofs.Splitting.{split-made}
 use Rattle.cutting.proofs.split_leaf.Statement.{statement}
 use Rattle.cutting.proofs.split_leaf.Tie as tie
 

@@ -9,7 +9,8 @@ use Rattle.nodes.proofs.Limits.{node-small}
 use Rattle.panel.specs.Panels.{deepOf}
 use Rattle.panel.proofs.Lengths.{fits-small}
 use Rattle.cutting.specs.inner.Changing.{CutPut}
-use Rattle.cutting.proofs.AtWork.{work-start, work-put, merging-alone, merging-both, room-at, put-at}
+use Rattle.cutting.proofs.AtWork.{work-start, work-put, room-at, put-at}
+use Rattle.cutting.proofs.Merging.{merging-alone, merging-both}
 use Rattle.cutting.proofs.take_back.Statement.{statement}
 use Rattle.cutting.proofs.take_back.Tie as tie
 

@@ -11,14 +11,8 @@ returns c = let s = c .before .before in kind-split (s .before .before .if1 .tak
 returns-2 : tie.Need-returns-2
 returns-2 c = let m = c .before .before in kind-merge (m .before .before .if2 .taken) (m .merge .ensures .0)
 
-put-pin-requires : tie.Need-put-pin-requires
-put-pin-requires c κs = search needs
-
 returns-3 : tie.Need-returns-3
 returns-3 c = let p = c .before .before in kind-pin (p .before .before .if3 .taken) (p .put-pin .ensures .0)
-
-put-pin-requires-2 : tie.Need-put-pin-requires-2
-put-pin-requires-2 c κs = search needs
 
 returns-4 : tie.Need-returns-4
 returns-4 c =
@@ -36,9 +30,9 @@ change-spec =
     (λ c κs. search needs)
     (λ c. search needs)
     returns-2
-    put-pin-requires
+    (λ c κs. search needs)
     (λ c. search needs)
     returns-3
-    put-pin-requires-2
+    (λ c κs. search needs)
     (λ c. search needs)
     returns-4)

@@ -8,9 +8,6 @@ use Rattle.pins.specs.Pins.{pinBit}
 use Rattle.pins.proofs.places.pin.Statement.{statement}
 use Rattle.pins.proofs.places.pin.Tie as tie
 
-shl-get-bit : tie.Need-shl-get-bit
-shl-get-bit c = search needs
-
 add-get-bit : tie.Need-add-get-bit
 add-get-bit c = omega (arith, bounds (c .before .pre .0 .words))
 
@@ -24,4 +21,4 @@ returns c =
     c .get-bit .ensures ∙ ap (bit (s .args .bytes .now)) (omega (arith, bounds (s .pre .0 .words)))
 
 pub pin-spec : {M : Type 1} → statement M
-pin-spec = tie.close (tie.spec shl-get-bit add-get-bit get-bit-requires returns)
+pin-spec = tie.close (tie.spec (λ c. search needs) add-get-bit get-bit-requires returns)

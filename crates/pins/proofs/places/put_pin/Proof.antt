@@ -9,17 +9,11 @@ use Rattle.pins.specs.inner.Steps.{putPin}
 use Rattle.pins.proofs.places.put_pin.Statement.{statement}
 use Rattle.pins.proofs.places.put_pin.Tie as tie
 
-shl-put-bit : tie.Need-shl-put-bit
-shl-put-bit c = search needs
-
 add-put-bit : tie.Need-add-put-bit
 add-put-bit c = omega (arith, bounds (c .before .before .pre .0 .words))
 
 put-bit-requires : tie.Need-put-bit-requires
 put-bit-requires c κs = omega (arith, bounds (c .before .before .pre .0 .words))
-
-same-length : tie.Need-same-length
-same-length c = search needs
 
 returns : tie.Need-returns
 unfolding putPin
@@ -30,4 +24,4 @@ returns c =
     ∙ ap (λ (x : ℕ). putBit (s .args .bytes .now) x (s .args .v)) (omega (arith, bounds (s .pre .0 .words)))
 
 pub put-pin-spec : {M : Type 1} → statement M
-put-pin-spec = tie.close (tie.spec shl-put-bit add-put-bit put-bit-requires same-length returns)
+put-pin-spec = tie.close (tie.spec (λ c. search needs) add-put-bit put-bit-requires (λ c. search needs) returns)
