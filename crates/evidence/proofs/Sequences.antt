@@ -11,7 +11,7 @@ use Rattle.nodes.specs.Neighbours.{edge}
 use Rattle.tables.specs.Table.{Row, unless, Answers, Outcome}
 use Rattle.tables.proofs.Tables.{answers-one, is-done}
 use Rattle.cuts.specs.Cuts.{CoverOnce}
-use Rattle.panel.specs.Panels.{deepOf, CutOf, Good, LeafOf, Pinned, leafCount}
+use Rattle.panel.specs.Panels.{deepOf, CutOf, Good, LeafOf, leafCount}
 use Rattle.panel.specs.Calls.{leafRows, Open, SplitAt, Split, Together, Unpinned, MergeAt, mergeRows, Merge, Pin, Unpin}
 use Rattle.panel.proofs.Pinning.{put-stays}
 use Rattle.panel.proofs.GoodPanels.{covers}

@@ -16,7 +16,7 @@ use Rattle.tables.specs.Table.{Answers}
 use Rattle.cuts.specs.Cuts.{placeOf}
 use Rattle.cuts.proofs.ForcedCuts.{good-iff}
 use Rattle.cuts.proofs.OneBit.{cut-same}
-use Rattle.cuts.proofs.Leaves.{leaf-place, leaf-set, place-once}
+use Rattle.cuts.proofs.Leaves.{leaf-set, place-once}
 use Rattle.pins.specs.Pins.{pinPlace, pinBit, PinsOnLeaves}
 use Rattle.panel.specs.Panels.{Fits, deepOf, CutOf, Good, LeafOf, pinOf, leafCount}
 use Rattle.panel.specs.Calls.{leafRows, PinAt, PinPut}
