@@ -1,6 +1,6 @@
--- The known panels: one test of all cases, which the checker computes, and the law that a case whose test passes holds.
+-- The known panels: the test of each case, which the checker computes, and the law that a case whose test passes holds.
 use mathlib.Core.Path.{_≡_, refl, _∙_, subst}
-use mathlib.Core.Bool.{Bool, true, _&&_, So}
+use mathlib.Core.Bool.{Bool, _&&_, So}
 use mathlib.Core.Logic.{inr}
 use mathlib.Core.List.{List, [], _∷_}
 use Prim.Native.Nat.{ℕ, _+_, _^_}
@@ -75,18 +75,18 @@ sound (corners n t) e =
 
 -- ---- all cases
 
-tests : List Case → Bool
-tests [] = true
-tests (c ∷ cs) = test c && tests cs
+-- each is computed by itself, so that a wrong one is named by its place
+abbrev Tested : List Case → Type 0
+Tested [] = Unit {0}
+Tested (c ∷ cs) = So (test c) × Tested cs
 
-all-sound : (cs : List Case) → So (tests cs) → Every cs
-unfolding tests
+all-sound : (cs : List Case) → Tested cs → Every cs
 all-sound [] e = tt
-all-sound (c ∷ cs) e = (sound c and all-sound cs) e
+all-sound (c ∷ cs) e = (sound c (e .0), all-sound cs (e .1))
 
-tested : So (tests knownCases)
-unfolding tests test knownNode upTo sameList firstNo cutIn goodIn leafIn forcedIn fitsIn sumsIn rightIn pinsIn goodPanel leavesIn freshIn passedIn splitIn keptIn mergeIn pinIn pinOfIn splitTests mergeTests leafTests ancestorIn refusedIn changed run word leafBit pinBit rank depthOf depthIn neighboursOf neighboursAt cornersOf cornersAt
-tested = refl
+tested : Tested knownCases
+unfolding test knownNode upTo sameList firstNo cutIn goodIn leafIn forcedIn fitsIn sumsIn rightIn pinsIn goodPanel leavesIn freshIn passedIn splitIn keptIn mergeIn pinIn pinOfIn splitTests mergeTests leafTests ancestorIn refusedIn changed run word leafBit pinBit rank depthOf depthIn neighboursOf neighboursAt cornersOf cornersAt
+tested = (refl, (refl, (refl, (refl, (refl, (refl, (refl, (refl, (refl, (refl, (refl, (refl, (refl, (refl, (refl, (refl, (refl, (refl, (refl, (refl, (refl, (refl, (refl, (refl, (refl, (refl, (refl, (refl, (refl, (refl, (refl, tt)))))))))))))))))))))))))))))))
 
 pub known : Every knownCases
 known = all-sound knownCases tested
