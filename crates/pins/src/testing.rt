@@ -15,7 +15,7 @@ fn byte_on_leaves(bytes: &[u8], deep: usize, n: usize, j: usize) -> bool
     pins & leaves == pins
 }
 
-// Whether no pin bit is set where no leaf bit is. It looks at every byte: without a jump out, the compiler tests sixteen at once.
+// Whether no pin bit is set where no leaf bit is. It looks at every byte: without a jump out, the compiler tests many at once.
 pub fn pins_on_leaves(bytes: &[u8], deep: usize) -> bool
     requires { ⌜ PinRoom deep (now bytes) ⌝ }
     ensures { λ r. ⌜ Says (PinsOnLeaves deep (now (bytes .entry))) r ⌝ }
