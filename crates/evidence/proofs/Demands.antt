@@ -45,7 +45,8 @@ use Rattle.steps.specs.Holding.{Holds}
 use Rattle.steps.proofs.Exactness.{nine-exactly, in-use-exactly}
 use Rattle.steps.proofs.Keeping.{step-refused}
 use Rattle.steps.proofs.Once.{step-one}
-use Rattle.requests.specs.Requests.{Runs, Part, Run, Parts, Ended}
+use Rattle.turns.specs.Turns.{Runs}
+use Rattle.requests.specs.Requests.{Part, Run, Parts, Ended}
 use Rattle.requests.proofs.Keeping.{run-holds, ended-holds, NoneDone}
 use Rattle.requests.proofs.Once.{part-one, run-one}
 use Rattle.requests.proofs.Parts.{parts-one}
@@ -308,8 +309,8 @@ demand-3 = record {
   long-side = always-long-side;
   after-records = run-holds;
   scan = run-keeps-scan;
-  open-on = runs-stay;
-  grows-on = runs-grow;
+  open-on = λ h r. runs-stay h r;
+  grows-on = λ h r. runs-grow h r;
   smallest = λ o. o .done refl;
   bounded = split-grows;
   exact = λ o. o .done refl;

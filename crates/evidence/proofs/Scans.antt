@@ -13,15 +13,17 @@ use Rattle.panel.specs.Calls.{Open, Split, PinPut}
 use Rattle.panel.proofs.Pinning.{pinned-count, put-leaf}
 use Rattle.panel.proofs.GoodPanels.{two-leaves, fresh-count}
 use Rattle.records.specs.Records.{kind, Fine, recordAt}
+use Rattle.records.specs.Turns.{InTurn}
+use Rattle.records.specs.Turns.InTurn.{none, more}
 use Rattle.steps.specs.Steps.{panelIn, changed, leavesIn, Called, Step}
 use Rattle.steps.specs.Steps.Called.{opened, refused, in-use, split, merge, pin, unpin}
 use Rattle.steps.specs.Steps.Step.{bad, call}
 use Rattle.steps.specs.Holding.{Holds}
 use Rattle.steps.proofs.Keeping.{holds-none}
 use Rattle.steps.proofs.Parts.{same-changed, held-length, leaves-none, leaves-open, leaves-changed}
-use Rattle.requests.specs.Requests.{Runs}
-use Rattle.requests.specs.Requests.Runs.{none, more}
-use Rattle.requests.proofs.Keeping.{runs-holds, NoneDone, before-none, last-none}
+use Rattle.turns.specs.Turns.{Stepped, Runs}
+use Rattle.turns.proofs.Runs.{runs-holds}
+use Rattle.requests.proofs.Keeping.{NoneDone, before-none, last-none}
 use Rattle.evidence.proofs.Sequences.{split-grows}
 
 -- ---- one record
@@ -109,13 +111,15 @@ pub run-keeps-scan : {rs b given t u : List ℕ} {D n E : ℕ} → Runs rs 0 b g
     → ScanKept (recordAt rs (length given)) D t n E u
 run-keeps-scan {b = b} r s = step-keeps-scan (runs-holds (holds-none b) r) s
 
--- an open panel stays open
-pub runs-stay : {rs b given u : List ℕ} {C D : ℕ} → Holds C b → Runs rs C b given D u → C ≢ 0 → D ≢ 0
-runs-stay h none z = z
-runs-stay h (more r s y) z = step-keeps-scan (runs-holds h r) s .stays (runs-stay h r z)
+module _ {rs : List ℕ} {x : ℕ × List ℕ} (h : Holds (x .0) (x .1)) where
+  -- an open panel stays open
+  pub runs-stay : {given : List ℕ} {y : ℕ × List ℕ} → InTurn (ℕ × List ℕ) Stepped rs x given y → x .0 ≢ 0 → y .0 ≢ 0
+  runs-stay none z = z
+  runs-stay (more r (s, _)) z = step-keeps-scan (runs-holds h r) s .stays (runs-stay r z)
 
--- and where no merge is accepted, its leaf count is not lowered
-pub runs-grow : {rs b given u : List ℕ} {C D : ℕ} → Holds C b → Runs rs C b given D u → NoneDone 2 rs given → leavesIn C b ≤ leavesIn D u
-runs-grow h none m = omega arith
-runs-grow {rs} h (more {given = g} {n = n} r s y) m =
-    omega (arith, runs-grow h r (before-none rs g n m), step-keeps-scan (runs-holds h r) s .grows (last-none rs g n m))
+  -- and where no merge is accepted, its leaf count is not lowered
+  pub runs-grow : {given : List ℕ} {y : ℕ × List ℕ} → InTurn (ℕ × List ℕ) Stepped rs x given y → NoneDone 2 rs given
+      → leavesIn (x .0) (x .1) ≤ leavesIn (y .0) (y .1)
+  runs-grow none m = omega arith
+  runs-grow (more {given = g} {n = n} r (s, _)) m =
+      omega (arith, runs-grow r (before-none rs g n m), step-keeps-scan (runs-holds h r) s .grows (last-none rs g n m))

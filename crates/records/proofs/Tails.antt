@@ -3,7 +3,7 @@ use mathlib.Core.Path.{_≡_, refl, sym, ap, _∙_}
 use mathlib.Core.Bool.{Bool, true, false}
 use mathlib.Core.Logic.{_≢_}
 use mathlib.Core.List.{List}
-use Prim.Native.Nat.{ℕ, _+_, _-_, _*_, _/_, _%_, _<_, min}
+use Prim.Native.Nat.{ℕ, _+_, _-_, _*_, _/_, _%_, _≤_, min}
 use native.Mathlib.Omega.{arith, min-cases}
 use lib.ListN.{length, take, drop, length-drop}
 use lib.Seq.{take-all, take-length}
@@ -31,7 +31,7 @@ in-tail ends p h e = rw e (omega arith)
 pub in-middle : (ends : Bool) (p : List ℕ) → ends ≡ false → length p / 8 ≡ recordsIn ends p
 in-middle ends p e = rw e refl
 
--- each record of a part has a byte of it
-pub in-bytes : (ends : Bool) (p : List ℕ) (i : ℕ) → i < recordsIn ends p → 8 * i < length p
-in-bytes true p i h = omega arith
-in-bytes false p i h = omega arith
+-- so many records of a part, the last of them the tail, have so many bytes
+pub in-room : (ends : Bool) (p : List ℕ) (n : ℕ) → n ≤ recordsIn ends p → 8 * n ≤ length p + 7
+in-room true p n h = omega arith
+in-room false p n h = omega arith

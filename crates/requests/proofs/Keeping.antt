@@ -9,15 +9,14 @@ use lib.Seq.{getD-append-seam}
 use Rattle.records.specs.Records.{kind, recordAt, Fine}
 use Rattle.steps.specs.Steps.{Step}
 use Rattle.steps.specs.Holding.{Holds}
-use Rattle.steps.proofs.Keeping.{step-refused, holds-none, step-holds, step-none, step-first}
-use Rattle.requests.specs.Requests.{Runs, Run, Ended}
-use Rattle.requests.specs.Requests.Runs.{none, more}
+use Rattle.records.specs.Turns.{InTurn}
+use Rattle.records.specs.Turns.InTurn.{none, more}
+use Rattle.steps.proofs.Keeping.{step-refused, holds-none, step-none, step-first}
+use Rattle.turns.specs.Turns.{Stepped, Runs}
+use Rattle.turns.proofs.Runs.{runs-holds}
+use Rattle.requests.specs.Requests.{Run, Ended}
 
 -- ---- the open panel stays good
-
-pub runs-holds : {rs b given u : List ℕ} {C D : ℕ} → Holds C b → Runs rs C b given D u → Holds D u
-runs-holds h none = h
-runs-holds h (more r s y) = step-holds (runs-holds h r) s
 
 -- what a run leaves open is good
 pub run-holds : {rs b out u after : List ℕ} {count D : ℕ} → Run rs b out count D u after → Holds D u
@@ -44,11 +43,11 @@ module _ {c : ℕ} (rs g : List ℕ) (n : ℕ) (h : NoneDone c rs (g ++ (n ∷ [
 -- ---- before the first accepted open
 
 -- no panel is open, and every byte is as before
-pub none-opened : {rs b given u : List ℕ} {D : ℕ} → Runs rs 0 b given D u → NoneDone 0 rs given → (D ≡ 0) × (u ≡ b)
+pub none-opened : {rs b given : List ℕ} {y : ℕ × List ℕ} → InTurn (ℕ × List ℕ) Stepped rs (0, b) given y → NoneDone 0 rs given → (y .0 ≡ 0) × (y .1 ≡ b)
 none-opened none h = (refl, refl)
-none-opened {rs} (more {given = g} {t = t} {u = u} {E = E} {n = n} r s y) h =
+none-opened {rs} (more {given = g} {n = n} {t = t} {u = u} r (s, y)) h =
     let i = none-opened r (before-none rs g n h) in
-    let o = subst (λ x. Step (recordAt rs (length g)) x t n E u) (i .0) s in
+    let o = subst (λ x. Step (recordAt rs (length g)) x (t .1) n (u .0) (u .1)) (i .0) s in
     let k = step-refused o (step-none o (last-none rs g n h)) in
     (k .0, k .1 ∙ i .1)
 

@@ -1,4 +1,4 @@
 pub mod Keeping
 pub mod Once
 pub mod Parts
-pub mod Turns
+pub mod Placing

@@ -1,29 +1,14 @@
--- One input has one outcome: of records in turn, of a part and of the whole. Each record's is that of its step.
-use mathlib.Core.Path.{_≡_, refl, sym, ap, ap₂, _∙_, subst, subst₂}
+-- One input has one outcome: of a part and of the whole, as records in turn have.
+use mathlib.Core.Path.{_≡_, sym, ap, ap₂, _∙_}
 use mathlib.Core.Bool.{Bool}
-use mathlib.Core.List.{List, [], _∷_, _++_}
+use mathlib.Core.List.{List, _++_}
 use Prim.Native.Nat.{ℕ, _-_, _≤_, min}
 use native.Mathlib.Omega.{arith}
-use lib.ListN.{length, take, drop, length-append, take-append-drop}
+use lib.ListN.{length, take, drop, take-append-drop}
 use lib.Seq.{slice, length-slice, take-take}
-use Rattle.records.specs.Records.{recordAt, mostRecords}
-use Rattle.steps.specs.Steps.{Step}
-use Rattle.steps.proofs.Once.{step-one}
-use Rattle.requests.specs.Requests.{Runs, Part, Run}
-use Rattle.requests.specs.Requests.Runs.{none, more}
-
-pub runs-one :
-    {rs b xs ys u v : List ℕ} {C D E : ℕ} → Runs rs C b xs D u → Runs rs C b ys E v → length xs ≡ length ys → (xs ≡ ys) × (D ≡ E) × (u ≡ v)
-runs-one none none e = (refl, refl, refl)
-runs-one none (more {given = g} {n = n} q s y) e = absurd (omega (arith, length-append g (n ∷ [])))
-runs-one (more {given = g} {n = n} p s x) none e = absurd (omega (arith, length-append g (n ∷ [])))
-runs-one {rs} (more {given = g} {t = t} {u = u} {E = E} {n = n} p s x) (more {given = h} {D = D} {n = m} q r y) e =
-    let l : length g ≡ length h = omega (arith, length-append g (n ∷ []), length-append h (m ∷ [])) in
-    let i = runs-one p q l in
-    let s₁ = subst (λ k. Step (recordAt rs (length g)) k t n E u) (i .1) s in
-    let s₂ = subst₂ (λ w z. Step (recordAt rs (length w)) D z n E u) (i .0) (i .2) s₁ in
-    let o = step-one x y s₂ r in
-    (ap₂ (λ w k. w ++ (k ∷ [])) (i .0) (o .0), o .1, o .2)
+use Rattle.records.specs.Records.{mostRecords}
+use Rattle.turns.proofs.Runs.{runs-one}
+use Rattle.requests.specs.Requests.{Part, Run}
 
 -- a list is its first bytes, those from there on up to another place, and the rest
 in-three : (before count : ℕ) (l : List ℕ) → before ≤ count → l ≡ (take before l ++ slice before count l) ++ drop count l

@@ -1,48 +1,21 @@
 -- A run goes on from part to part: the parts in turn are the run of their bytes together, however these are cut between records.
-use mathlib.Core.Path.{_≡_, refl, sym, ap, _∙_, subst, subst⁻¹}
+use mathlib.Core.Path.{_≡_, refl, sym, ap, _∙_, subst⁻¹}
 use mathlib.Core.Bool.{Bool, true, false}
-use mathlib.Core.List.{List, [], _∷_, _++_, append-assoc, append-nil}
+use mathlib.Core.List.{List, [], _++_}
 use Prim.Native.Nat.{ℕ, _+_, _-_, _*_, _/_, _%_, _≤_, _<_, min}
 use native.Mathlib.Omega.{arith}
-use lib.ListN.{length, take, drop, length-append, length-drop, take-append-drop}
-use lib.Seq.{slice, length-slice, length-take-le, take-take, take-append-le, drop-append-le, drop-append-add, drop-drop}
+use lib.ListN.{length, take, drop, length-append, take-append-drop}
+use lib.Seq.{slice, length-slice, length-take-le, take-take, drop-drop}
 use Rattle.records.specs.Records.{recordAt, recordsIn, mostRecords}
-use Rattle.steps.specs.Steps.{Step}
+use Rattle.records.specs.Turns.InTurn.{none}
+use Rattle.records.proofs.Turns.{record-behind, turns-longer, turns-then}
 use Rattle.steps.specs.Holding.{Holds}
 use Rattle.steps.proofs.Keeping.{holds-none}
-use Rattle.requests.specs.Requests.{Runs, Part, Run, Parts, Ended}
-use Rattle.requests.specs.Requests.Runs.{none, more}
+use Rattle.turns.specs.Turns.{Runs}
+use Rattle.turns.proofs.Runs.{runs-holds}
+use Rattle.requests.specs.Requests.{Part, Run, Parts, Ended}
 use Rattle.requests.specs.Requests.Parts.{none as no-parts, more as one-more}
-use Rattle.requests.proofs.Keeping.{runs-holds}
 use Rattle.requests.proofs.Once.{run-one}
-
--- ---- records of bytes put together
-
-record-before : (rs p : List ℕ) (i : ℕ) → 8 * i + 8 ≤ length rs → recordAt (rs ++ p) i ≡ recordAt rs i
-record-before rs p i h =
-    ap (take 8) (drop-append-le (8 * i) rs p (omega arith)) ∙ take-append-le 8 (drop (8 * i) rs) p (omega (arith, length-drop (8 * i) rs))
-
-record-behind : (rs p : List ℕ) (n j : ℕ) → 8 * n ≡ length rs → recordAt (rs ++ p) (n + j) ≡ recordAt p j
-record-behind rs p n j e =
-    let k : 8 * (n + j) ≡ length rs + 8 * j = omega (arith, e) in
-    ap (λ x. take 8 (drop x (rs ++ p))) k ∙ ap (take 8) (drop-append-add rs p (8 * j))
-
--- ---- runs of bytes put together
-
-runs-longer : {rs b xs u : List ℕ} {C D : ℕ} (p : List ℕ) → Runs rs C b xs D u → 8 * length xs ≤ length rs → Runs (rs ++ p) C b xs D u
-runs-longer p none h = none
-runs-longer {rs} p (more {given = g} {t = t} {u = u} {D = D} {E = E} {n = n} r s y) h =
-    let l = length-append g (n ∷ []) in
-    more (runs-longer p r (omega (arith, h, l))) (subst⁻¹ (λ x. Step x D t n E u) (record-before rs p (length g) (omega (arith, h, l))) s) y
-
-runs-then : {rs p b xs ys t u : List ℕ} {B C D : ℕ} → Runs rs B b xs C t
-    → ((j : ℕ) → j < length ys → recordAt rs (length xs + j) ≡ recordAt p j) → Runs p C t ys D u → Runs rs B b (xs ++ ys) D u
-runs-then {rs} {b = b} {xs = xs} {t = t} {B = B} {C = C} r h none = subst⁻¹ (λ x. Runs rs B b x C t) (append-nil xs) r
-runs-then {rs} {b = b} {xs = xs} {B = B} r h (more {given = g} {t = t} {u = u} {D = D} {E = E} {n = n} q s y) =
-    let l = length-append g (n ∷ []) in
-    let e : recordAt rs (length (xs ++ g)) ≡ recordAt _ (length g) = ap (recordAt rs) (length-append xs g) ∙ h (length g) (omega (arith, l)) in
-    subst (λ x. Runs rs B b x E u) (append-assoc xs g (n ∷ []))
-    (more (runs-then r (λ j k. h j (omega (arith, l, k))) q) (subst⁻¹ (λ x. Step x D t n E u) e s) y)
 
 -- ---- parts in turn
 
@@ -75,7 +48,7 @@ module _ {b out rs p t u given after : List ℕ} {ends : Bool} {n m C D : ℕ} (
   on-runs =
       let e = length-take-le n given (omega (arith, h .count, h .long)) in
       subst⁻¹ (λ x. Runs (rs ++ p) 0 b x D u) on-answers
-      (runs-then (runs-longer p (h .runs) (omega (arith, e, h .count, h .whole))) on-record (q .runs))
+      (turns-then (turns-longer p (h .runs) (omega (arith, e, h .count, h .whole))) on-record (q .runs))
 
   on-rest : drop m after ≡ drop m out
   on-rest =

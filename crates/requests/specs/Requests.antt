@@ -2,21 +2,12 @@
 -- at the buffer's start, and 0 where none is.
 use mathlib.Core.Path.{_≡_}
 use mathlib.Core.Bool.{Bool, true, false}
-use mathlib.Core.List.{List, [], _∷_, _++_}
+use mathlib.Core.List.{List, [], _++_}
 use Prim.Native.Nat.{ℕ, _%_, min}
 use lib.ListN.{length, take, drop}
 use lib.Seq.{slice}
-use Rattle.bits.specs.Bits.{Bytes}
-use Rattle.records.specs.Records.{recordAt, countAfter}
-use Rattle.steps.specs.Steps.{Step}
-
--- the first records in turn, from a buffer b where the panel of depth C is open: their answers, and the depth and the buffer after them. The buffer
--- holds bytes after each
-pub data Runs (rs : List ℕ) (C : ℕ) (b : List ℕ) : List ℕ → ℕ → List ℕ → Type 0 where
-  none : Runs rs C b [] C b
-  more :
-      {given t u : List ℕ} {D E n : ℕ} → Runs rs C b given D t → Step (recordAt rs (length given)) D t n E u → Bytes u
-      → Runs rs C b (given ++ (n ∷ [])) E u
+use Rattle.records.specs.Records.{countAfter}
+use Rattle.turns.specs.Turns.{Runs}
 
 -- one part p of the input, which ends with it or goes on: `before` records are answered before it, in the answers' buffer out, and the panel of depth C is
 -- open. After it `count` are: every record of the part, up to the limit, or as many as the answers' buffer has room for. Its bytes in front of the

@@ -1,8 +1,7 @@
 // Runs of request records on a lent buffer.
 use records::count_after;
 use records::least;
-use records::record_at;
-use steps::step;
+use turns::in_turn;
 ghost use Prim.Native.Nat.{_≤_, min};
 ghost use lib.ListN.{length};
 ghost use Rattle.records.specs.Records.{mostRecords};
@@ -24,14 +23,6 @@ pub fn run(part: &[u8], ends: bool, buffer: &mut [u8], answers: &mut [u8], befor
 {
     let first = before.count;
     let count = least(count_after(first, part, ends), answers.len());
-    let mut deep = before.deep;
-    let mut i = first;
-    while i < count {
-        let done = step(record_at(part, i - first), buffer, deep);
-        let answer = done.answer;
-        answers[i] = answer.number() as u8;
-        deep = done.deep;
-        i += 1;
-    }
+    let deep = in_turn(part, buffer, &mut answers[first..count], before.deep);
     Ran { count, deep }
 }

@@ -1,71 +1,38 @@
--- The invariant: the answers so far, the depth and the buffer are those of the records so far in turn. So the open panel is good.
-use mathlib.Core.Path.{sym, ap, _∙_, subst}
-use Prim.Native.Nat.{_-_, _<_, min}
-use native.Mathlib.Omega.{arith}
+-- The part's answers are those of its records in turn, in the place that is lent for them.
+use mathlib.Core.Path.{_≡_, ap, _∙_}
+use Prim.Native.Nat.{min}
 use lib.ListN.{length}
 use borrow.Author.Needs.{needs}
-use Rattle.answers.proofs.Refusing.{answer-byte}
-use Rattle.requests.proofs.Turns.{Turned, turned-none, turned-room, turned-record, turned-more, turned-end}
-use Rattle.requests.proofs.Keeping.{runs-holds}
+use Rattle.records.specs.Records.{countAfter}
+use Rattle.requests.proofs.Placing.{lent-records, part-placed}
 use Rattle.requests.proofs.run.Statement.{statement}
 use Rattle.requests.proofs.run.Tie as tie
 
-abbrev Inv-loop : tie.InvT-loop
-Inv-loop part ends buffer₀ answers₀ first count deep₀ i₀ buffer answers deep i = Turned part ends first deep₀ buffer₀ answers₀ count buffer answers deep i
+-- as many are answered in the end as the part says
+count-here : (c : tie.After-least) → let a = c .before .before .before .before .before .args in
+    c .least .result ≡ min (countAfter (a .before .count) (a .ends) (a .part .now)) (length (a .answers .now))
+count-here c = c .least .ensures ∙ ap (λ n. min n (length (c .before .before .before .before .before .args .answers .now))) (c .before .count-after .ensures)
 
-abbrev μ-loop : tie.MeasureT-loop
-μ-loop part ends buffer₀ answers₀ first count deep₀ i₀ buffer answers deep i = count - i
+in-turn-requires : tie.Need-in-turn-requires
+in-turn-requires c κs =
+    let s = c .before .before .before .before .before .before .before in
+    (s .pre .0, lent-records (s .args .part .now) (s .args .ends) _ _ _ (s .pre .1) (count-here (c .before .before)))
 
-count-after-requires : tie.Need-count-after-requires Inv-loop μ-loop
-count-after-requires c κs = omega (arith, c .before .before .before .pre .1)
-
-loop-holds : tie.Need-loop-holds Inv-loop μ-loop
-loop-holds c =
-    let s = c .before .before .before .before .before in
-    let e = c .least .ensures ∙ ap (λ n. min n (length (s .args .answers .now))) (c .before .count-after .ensures) in
-    turned-none _ _ _ _ _ _ _ e (omega (arith, e, s .pre .1))
-
-record-at-requires : tie.Need-record-at-requires Inv-loop μ-loop
-record-at-requires c κs = turned-record (c .before .loop .inv) (c .loop-test .taken)
-
-step-requires : tie.Need-step-requires Inv-loop μ-loop
-step-requires c κs = let l = c .before .before .before in runs-holds (l .before .before .before .before .before .before .pre .0) (l .loop .inv .runs)
-
-cast-answers : tie.Need-cast-answers Inv-loop μ-loop
-cast-answers c = record { fits = subst (λ n. n < 256) (sym (c .number .ensures)) (answer-byte (c .before .before .before .step .result .answer)) }
-
-slice-write-answers : tie.Need-slice-write-answers Inv-loop μ-loop
-slice-write-answers c = let l = c .before .before .before .before .before .before in turned-room (l .before .loop .inv) (l .loop-test .taken)
-
-loop-again : tie.Need-loop-again Inv-loop μ-loop
-loop-again c =
-    let s = c .before .before .before in
-    let l = s .before .before .before in
-    turned-more (l .before .loop .inv) (l .loop-test .taken) (s .before .before .record-at .ensures) (c .number .ensures) (s .step .ensures)
-    (λ i. c .before .slice-known3 .given i .fits)
-    (s .step .kept .1 .0)
-
-returns : tie.Need-returns Inv-loop μ-loop
-returns c = turned-end (c .before .loop .inv) (c .loop-test .left)
+returns : tie.Need-returns
+returns c =
+    let i = c .before .before .before .before in
+    part-placed _ _ _ _ _ (i .before .before .before .before .before .before .before .before .pre .1) (count-here (i .before .before .before)) (i .in-turn .kept .1 .1 .0) (i .in-turn .ensures)
 
 pub run-spec : {M : Type 1} → statement M
 run-spec =
     tie.close
     (tie.spec
-    Inv-loop
-    μ-loop
-    count-after-requires
     (λ c κs. search needs)
-    loop-holds
-    (λ c. omega (arith, c .before .loop .inv .from))
-    record-at-requires
-    step-requires
     (λ c κs. search needs)
-    cast-answers
-    slice-write-answers
     (λ c. search needs)
     (λ c. search needs)
-    loop-again
+    (λ c. search needs)
+    in-turn-requires
     (λ c. search needs)
     (λ c. search needs)
     returns)
