@@ -110,11 +110,11 @@ pub record Demand1 : Type 0 where
   pub corners : (n : ℕ) → Settled (nodeRows n) Triangle (Any Triangle) noCorners (Corners n)
   -- one record: 9 exactly where it is bad, 18 exactly where it asks for an open that fits, over more than two leaves, and else its call's
   -- answer; a refused one; a part of the input, and a run of records
-  pub step : {r b u v : List ℕ} {D n m E F : ℕ} → Bytes u → Bytes v → Step r D b n E u → Step r D b m F v → (n ≡ m) × (E ≡ F) × (u ≡ v)
-  pub step-bad : {r b u : List ℕ} {D n E : ℕ} → Step r D b n E u → (n ≡ 9) ↔ (Fine r → ⊥)
-  pub step-in-use : {r b u : List ℕ} {D n E : ℕ} → Step r D b n E u
-      → (n ≡ 18) ↔ (Fine r × (kind r ≡ 0) × Fits (panelIn (number r) b) (number r) × (2 < leavesIn D b))
-  pub step-keeps : {r b u : List ℕ} {D n E : ℕ} → Step r D b n E u → n ≢ 0 → (E ≡ D) × (u ≡ b)
+  pub step : {r b u v : List ℕ} {D n m E F : ℕ} → Bytes u → Bytes v → Step 0 4 r D b n E u → Step 0 4 r D b m F v → (n ≡ m) × (E ≡ F) × (u ≡ v)
+  pub step-bad : {r b u : List ℕ} {D n E : ℕ} → Step 0 4 r D b n E u → (n ≡ 9) ↔ (Fine 0 4 r → ⊥)
+  pub step-in-use : {r b u : List ℕ} {D n E : ℕ} → Step 0 4 r D b n E u
+      → (n ≡ 18) ↔ (Fine 0 4 r × (kind r ≡ 0) × Fits (panelIn (number r) b) (number r) × (2 < leavesIn D b))
+  pub step-keeps : {r b u : List ℕ} {D n E : ℕ} → Step 0 4 r D b n E u → n ≢ 0 → (E ≡ D) × (u ≡ b)
   pub part : {p b out u v x y : List ℕ} {ends : Bool} {before C n m D E : ℕ} → before ≤ min mostRecords (length out)
       → Part p ends before C b out n D u x → Part p ends before C b out m E v y → (n ≡ m) × (D ≡ E) × (u ≡ v) × (x ≡ y)
   pub run : {rs b out u v x y : List ℕ} {n m D E : ℕ} → Run rs b out n D u x → Run rs b out m E v y → (n ≡ m) × (D ≡ E) × (u ≡ v) × (x ≡ y)
@@ -285,9 +285,9 @@ pub record Demand3 : Type 0 where
   pub long-side : {t : List ℕ} → Reached t → (n : ℕ) → 2 ≤ n → CutOf t n → edge n ≢ 0 → CutOf t (edge n)
   pub after-records : {rs b out u after : List ℕ} {count D : ℕ} → Run rs b out count D u after → Holds D u
   -- no record of a run loses a scan; and from any record of it on the panel stays open, and has no fewer leaves where no merge is accepted
-  pub scan : {rs b given t u : List ℕ} {D n E : ℕ} → Runs rs 0 b given D t → Step (recordAt rs (length given)) D t n E u → ScanKept (recordAt rs (length given)) D t n E u
-  pub open-on : {rs b given u : List ℕ} {C D : ℕ} → Holds C b → Runs rs C b given D u → C ≢ 0 → D ≢ 0
-  pub grows-on : {rs b given u : List ℕ} {C D : ℕ} → Holds C b → Runs rs C b given D u → NoneDone 2 rs given → leavesIn C b ≤ leavesIn D u
+  pub scan : {rs b given t u : List ℕ} {D n E : ℕ} → Runs 0 4 rs 0 b given D t → Step 0 4 (recordAt rs (length given)) D t n E u → ScanKept (recordAt rs (length given)) D t n E u
+  pub open-on : {rs b given u : List ℕ} {C D : ℕ} → Holds C b → Runs 0 4 rs C b given D u → C ≢ 0 → D ≢ 0
+  pub grows-on : {rs b given u : List ℕ} {C D : ℕ} → Holds C b → Runs 0 4 rs C b given D u → NoneDone 2 rs given → leavesIn C b ≤ leavesIn D u
   -- the smallest good panel that holds every old cut and k's; at least one leaf more, and at most twice k's depth
   pub smallest : {s : List ℕ} {k : ℕ} {t : List ℕ} → Split s k 0 t → SplitAt s k t
   pub bounded : {s : List ℕ} {k : ℕ} {t : List ℕ} → Split s k 0 t → (leafCount s + 1 ≤ leafCount t) × (leafCount t ≤ leafCount s + 2 * depthOf k)

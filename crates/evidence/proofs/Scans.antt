@@ -33,9 +33,9 @@ pub record ScanKept (r : List ℕ) (D : ℕ) (b : List ℕ) (n E : ℕ) (u : Lis
   -- an open panel stays open
   pub stays : D ≢ 0 → E ≢ 0
   -- an open is accepted only over no panel or two leaves
-  pub over : Fine r → kind r ≡ 0 → n ≡ 0 → (D ≡ 0) ⊎ (leavesIn D b ≡ 2)
+  pub over : Fine 0 4 r → kind r ≡ 0 → n ≡ 0 → (D ≡ 0) ⊎ (leavesIn D b ≡ 2)
   -- unless the record is an accepted merge, the leaf count is not lowered
-  pub grows : (Fine r → kind r ≡ 2 → n ≢ 0) → leavesIn D b ≤ leavesIn E u
+  pub grows : (Fine 0 4 r → kind r ≡ 2 → n ≢ 0) → leavesIn D b ≤ leavesIn E u
 
 opened-deep : {s t : List ℕ} {k : ℕ} → Open s k 0 t → k ≢ 0
 opened-deep o e = omega (arith, o .done refl .deep)
@@ -101,24 +101,24 @@ module _ {D : ℕ} {b : List ℕ} (h : Holds D b) where
   called-grows (pin o) m = put-more (omega arith) o
   called-grows (unpin o) m = put-more (omega arith) o
 
-  step-keeps-scan : {r u : List ℕ} {n E : ℕ} → Step r D b n E u → ScanKept r D b n E u
+  step-keeps-scan : {r u : List ℕ} {n E : ℕ} → Step 0 4 r D b n E u → ScanKept r D b n E u
   step-keeps-scan (bad f) = record { stays = λ z. z; over = λ g. absurd (f g); grows = λ m. omega arith }
   step-keeps-scan (call f c) = record { stays = called-stays c; over = λ _. called-over c; grows = λ m. called-grows c (m f) }
 
 -- ---- a run of records
 
-pub run-keeps-scan : {rs b given t u : List ℕ} {D n E : ℕ} → Runs rs 0 b given D t → Step (recordAt rs (length given)) D t n E u
+pub run-keeps-scan : {rs b given t u : List ℕ} {D n E : ℕ} → Runs 0 4 rs 0 b given D t → Step 0 4 (recordAt rs (length given)) D t n E u
     → ScanKept (recordAt rs (length given)) D t n E u
 run-keeps-scan {b = b} r s = step-keeps-scan (runs-holds (holds-none b) r) s
 
 module _ {rs : List ℕ} {x : ℕ × List ℕ} (h : Holds (x .0) (x .1)) where
   -- an open panel stays open
-  pub runs-stay : {given : List ℕ} {y : ℕ × List ℕ} → InTurn (ℕ × List ℕ) Stepped rs x given y → x .0 ≢ 0 → y .0 ≢ 0
+  pub runs-stay : {given : List ℕ} {y : ℕ × List ℕ} → InTurn (ℕ × List ℕ) (Stepped 0 4) rs x given y → x .0 ≢ 0 → y .0 ≢ 0
   runs-stay none z = z
   runs-stay (more r (s, _)) z = step-keeps-scan (runs-holds h r) s .stays (runs-stay r z)
 
   -- and where no merge is accepted, its leaf count is not lowered
-  pub runs-grow : {given : List ℕ} {y : ℕ × List ℕ} → InTurn (ℕ × List ℕ) Stepped rs x given y → NoneDone 2 rs given
+  pub runs-grow : {given : List ℕ} {y : ℕ × List ℕ} → InTurn (ℕ × List ℕ) (Stepped 0 4) rs x given y → NoneDone 2 rs given
       → leavesIn (x .0) (x .1) ≤ leavesIn (y .0) (y .1)
   runs-grow none m = omega arith
   runs-grow (more {given = g} {n = n} r (s, _)) m =

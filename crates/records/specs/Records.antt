@@ -1,4 +1,4 @@
--- Request records of eight bytes, by "The request file" and 02, W7.
+-- Request records of eight bytes, by "The request file" and 02, W1 and W7.
 use mathlib.Core.Path.{_≡_}
 use mathlib.Core.Bool.{Bool, true, false}
 use mathlib.Core.List.{List}
@@ -14,10 +14,11 @@ kind r = getD r 0 0
 abbrev pub number : List ℕ → ℕ
 number r = little r 4 4
 
--- a record that isn't bad: it is whole, its kind isn't above 4, its three spare bytes are zero
-pub record Fine (r : List ℕ) : Type 0 where
+-- a record that isn't bad: it is whole, its kind is one from `first` to `last`, its three spare bytes are zero. The request file has the kinds 0 to 4
+pub record Fine (first last : ℕ) (r : List ℕ) : Type 0 where
   pub whole : length r ≡ 8
-  pub kinds : kind r ≤ 4
+  pub least : first ≤ kind r
+  pub most : kind r ≤ last
   pub spare-1 : getD r 1 0 ≡ 0
   pub spare-2 : getD r 2 0 ≡ 0
   pub spare-3 : getD r 3 0 ≡ 0

@@ -8,14 +8,24 @@ ghost use Rattle.records.specs.Records.{number, Fine, recordAt, mostReco
 // The most records that a run works through, over all parts of its input.
 pub const MOST_RECORDS: usize = 4096;
 
-// Whether the record is whole, of a known kind, and its spare bytes are zero.
-pub fn fine(request: &[u8]) -> bool
-    ensures { λ r. ⌜ Says (Fine (now (request .entry))) r ⌝ }
+// The kinds of records.
+pub const OPEN: u8 = 0;
+pub const SPLIT: u8 = 1;
+pub const MERGE: u8 = 2;
+pub const PIN: u8 = 3;
+pub const UNPIN: u8 = 4;
+
+// Whether the record is whole, of a kind from `first` to `last`, and its spare bytes are zero.
+pub fn fine(request: &[u8], first: u8, last: u8) -> bool
+    ensures { λ r. ⌜ Says (Fine first last (now (request .entry))) r ⌝ }
 {
     if request.len() != 8 {
         return false;
     }
-    if 4 < request[0] {
+    if request[0] < first {
+        return false;
+    }
+    if last < request[0] {
         return false;
     }
     if request[1] != 0 {

@@ -29,11 +29,11 @@ ended-holds e = runs-holds (holds-none (e .before)) (e .runs)
 
 -- none of the first records is an accepted call of kind c
 abbrev pub NoneDone : ℕ → List ℕ → List ℕ → Type 0
-NoneDone c rs given = (i : ℕ) → i < length given → Fine (recordAt rs i) → kind (recordAt rs i) ≡ c → getD given i 0 ≢ 0
+NoneDone c rs given = (i : ℕ) → i < length given → Fine 0 4 (recordAt rs i) → kind (recordAt rs i) ≡ c → getD given i 0 ≢ 0
 
 module _ {c : ℕ} (rs g : List ℕ) (n : ℕ) (h : NoneDone c rs (g ++ (n ∷ []))) where
   -- the last is none ..
-  pub last-none : Fine (recordAt rs (length g)) → kind (recordAt rs (length g)) ≡ c → n ≢ 0
+  pub last-none : Fine 0 4 (recordAt rs (length g)) → kind (recordAt rs (length g)) ≡ c → n ≢ 0
   last-none f k e = h (length g) (omega (arith, length-append g (n ∷ []))) f k (getD-append-seam g n [] 0 ∙ e)
 
   -- .. and neither is one before it
@@ -43,17 +43,17 @@ module _ {c : ℕ} (rs g : List ℕ) (n : ℕ) (h : NoneDone c rs (g ++ (n ∷ [
 -- ---- before the first accepted open
 
 -- no panel is open, and every byte is as before
-pub none-opened : {rs b given : List ℕ} {y : ℕ × List ℕ} → InTurn (ℕ × List ℕ) Stepped rs (0, b) given y → NoneDone 0 rs given → (y .0 ≡ 0) × (y .1 ≡ b)
+pub none-opened : {rs b given : List ℕ} {y : ℕ × List ℕ} → InTurn (ℕ × List ℕ) (Stepped 0 4) rs (0, b) given y → NoneDone 0 rs given → (y .0 ≡ 0) × (y .1 ≡ b)
 none-opened none h = (refl, refl)
 none-opened {rs} (more {given = g} {n = n} {t = t} {u = u} r (s, y)) h =
     let i = none-opened r (before-none rs g n h) in
-    let o = subst (λ x. Step (recordAt rs (length g)) x (t .1) n (u .0) (u .1)) (i .0) s in
+    let o = subst (λ x. Step 0 4 (recordAt rs (length g)) x (t .1) n (u .0) (u .1)) (i .0) s in
     let k = step-refused o (step-none o (last-none rs g n h)) in
     (k .0, k .1 ∙ i .1)
 
 -- and split and merge answer 1
 pub before-first-open :
-    {rs b given u v : List ℕ} {D n E : ℕ} → Runs rs 0 b given D u → NoneDone 0 rs given
-    → Step (recordAt rs (length given)) D u n E v → Fine (recordAt rs (length given)) → kind (recordAt rs (length given)) ≢ 0
+    {rs b given u v : List ℕ} {D n E : ℕ} → Runs 0 4 rs 0 b given D u → NoneDone 0 rs given
+    → Step 0 4 (recordAt rs (length given)) D u n E v → Fine 0 4 (recordAt rs (length given)) → kind (recordAt rs (length given)) ≢ 0
     → n ≡ 1
 before-first-open r h s = step-first (none-opened r h .0) s

@@ -23,7 +23,7 @@ use Rattle.requests.proofs.Once.{run-one}
 record Sofar (b out rs : List ℕ) (n C : ℕ) (t given : List ℕ) : Type 0 where
   whole : length rs % 8 ≡ 0
   count : n ≡ min (min mostRecords (length rs / 8)) (length out)
-  runs : Runs rs 0 b (take n given) C t
+  runs : Runs 0 4 rs 0 b (take n given) C t
   long : length given ≡ length out
   rest : drop n given ≡ drop n out
 
@@ -44,10 +44,10 @@ module _ {b out rs p t u given after : List ℕ} {ends : Bool} {n m C D : ℕ} (
       let e = length-take-le n given (omega (arith, h .count, h .long)) in
       ap (λ k. recordAt (rs ++ p) (k + j)) e ∙ record-behind rs p n j (omega (arith, h .count, h .long, h .whole, q .all, s, l))
 
-  on-runs : Runs (rs ++ p) 0 b (take m after) D u
+  on-runs : Runs 0 4 (rs ++ p) 0 b (take m after) D u
   on-runs =
       let e = length-take-le n given (omega (arith, h .count, h .long)) in
-      subst⁻¹ (λ x. Runs (rs ++ p) 0 b x D u) on-answers
+      subst⁻¹ (λ x. Runs 0 4 (rs ++ p) 0 b x D u) on-answers
       (turns-then (turns-longer p (h .runs) (omega (arith, e, h .count, h .whole))) on-record (q .runs))
 
   on-rest : drop m after ≡ drop m out

@@ -26,7 +26,7 @@ module _ (p : List ℕ) (ends : Bool) (before : ℕ) (out : List ℕ) (count : �
   rest-same = let s : before + (count - before) ≡ count = omega (arith, h, a) in drop-drop (count - before) before out ∙ ap (λ k. drop k out) s
 
   -- the answers ys in that part
-  pub part-placed : {C D : ℕ} {b t ys : List ℕ} → length ys ≡ length (take (count - before) (drop before out)) → Runs p C b ys D t
+  pub part-placed : {C D : ℕ} {b t ys : List ℕ} → length ys ≡ length (take (count - before) (drop before out)) → Runs 0 4 p C b ys D t
       → Part p ends before C b out count D t (take before out ++ (ys ++ drop (count - before) (drop before out)))
   part-placed {C} {D} {b} {t} {ys} e r =
       let tail : List ℕ = drop (count - before) (drop before out) in
@@ -35,7 +35,7 @@ module _ (p : List ℕ) (ends : Bool) (before : ℕ) (out : List ℕ) (count : �
       let j : take before out ++ (ys ++ tail) ≡ front ++ tail = sym (append-assoc (take before out) ys tail) in
       record {
         all = a;
-        runs = subst⁻¹ (λ x. Runs p C b x D t) (ap (slice before count) j ∙ ap (drop before) (take-at front tail count l) ∙ drop-at (take before out) ys before before-long) r;
+        runs = subst⁻¹ (λ x. Runs 0 4 p C b x D t) (ap (slice before count) j ∙ ap (drop before) (take-at front tail count l) ∙ drop-at (take before out) ys before before-long) r;
         long = ap length j ∙ length-append front tail ∙ omega (arith, l, ap length rest-same, length-drop count out, a);
         front = take-at (take before out) (ys ++ tail) before before-long;
         rest = ap (drop count) j ∙ drop-at front tail count l ∙ rest-same;

@@ -14,7 +14,7 @@ use Rattle.turns.specs.Turns.{Runs}
 -- part's answers and behind them stay as before
 pub record Part (p : List ℕ) (ends : Bool) (before C : ℕ) (b out : List ℕ) (count D : ℕ) (t after : List ℕ) : Type 0 where
   pub all : count ≡ min (countAfter before ends p) (length out)
-  pub runs : Runs p C b (slice before count after) D t
+  pub runs : Runs 0 4 p C b (slice before count after) D t
   pub long : length after ≡ length out
   pub front : take before after ≡ take before out
   pub rest : drop count after ≡ drop count out
@@ -34,5 +34,5 @@ pub data Parts (b out : List ℕ) : List ℕ → ℕ → ℕ → List ℕ → Li
 pub record Ended (given : List ℕ) (D : ℕ) (t : List ℕ) : Type 0 where
   pub input : List ℕ
   pub before : List ℕ
-  pub runs : Runs input 0 before given D t
+  pub runs : Runs 0 4 input 0 before given D t
   pub all : length given ≡ countAfter 0 true input

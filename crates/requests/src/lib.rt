@@ -1,4 +1,6 @@
 // Runs of request records on a lent buffer.
+use records::OPEN;
+use records::UNPIN;
 use records::count_after;
 use records::least;
 use turns::in_turn;
@@ -23,6 +25,6 @@ pub fn run(part: &[u8], ends: bool, buffer: &mut [u8], answers: &mut [u8], befor
 {
     let first = before.count;
     let count = least(count_after(first, part, ends), answers.len());
-    let deep = in_turn(part, buffer, &mut answers[first..count], before.deep);
+    let deep = in_turn(part, buffer, &mut answers[first..count], before.deep, OPEN, UNPIN);
     Ran { count, deep }
 }

@@ -91,8 +91,8 @@ module _ {D : ℕ} {b : List ℕ} (h : Holds D b) (z : D ≢ 0) where
 
 -- ---- the record
 
-pub step-call : {r b u : List ℕ} {k D c n E : ℕ} → Fine r → k ≡ number r → c ≡ kind r → Called k D b c n E u → Step r D b n E u
-step-call {r} {b} {u} {D = D} {n = n} {E = E} f e h p = call f (subst₂ (λ x y. Called x D b y n E u) e h p)
+pub step-call : {first last : ℕ} {r b u : List ℕ} {k D c n E : ℕ} → Fine first last r → k ≡ number r → c ≡ kind r → Called k D b c n E u → Step first last r D b n E u
+step-call {r = r} {b = b} {u = u} {D = D} {n = n} {E = E} f e h p = call f (subst₂ (λ x y. Called x D b y n E u) e h p)
 
-pub step-kept : {r b u : List ℕ} {D n m E : ℕ} → (n ≡ m) × (E ≡ D) → Step r D b m D u → Step r D b n E u
-step-kept {r} {b} {u} {D} e p = subst₂ (λ x y. Step r D b x y u) (sym (e .0)) (sym (e .1)) p
+pub step-kept : {first last : ℕ} {r b u : List ℕ} {D n m E : ℕ} → (n ≡ m) × (E ≡ D) → Step first last r D b m D u → Step first last r D b n E u
+step-kept {first} {last} {r} {b} {u} {D} e p = subst₂ (λ x y. Step first last r D b x y u) (sym (e .0)) (sym (e .1)) p

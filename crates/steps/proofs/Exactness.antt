@@ -38,19 +38,19 @@ only-in-use (pin {n = n} p) h z w = absurd (outcome-without n (omega arith) (ome
 only-in-use (unpin {n = n} p) h z w = absurd (outcome-without n (omega arith) (omega arith) p refl)
 
 -- 9 is answered exactly where the record is bad
-pub nine-exactly : {r b u : List ℕ} {D n E : ℕ} → Step r D b n E u → (n ≡ 9) ↔ (Fine r → ⊥)
+pub nine-exactly : {first last : ℕ} {r b u : List ℕ} {D n E : ℕ} → Step first last r D b n E u → (n ≡ 9) ↔ (Fine first last r → ⊥)
 nine-exactly (bad f) = (λ e. f, λ g. refl)
 nine-exactly (call g c) = (λ e. absurd (omega (arith, only-in-use c (omega arith) (omega arith) (omega arith) .0)), λ f. absurd (f g))
 
 -- 18 is answered exactly to an open that would be done, while the open panel has more than two leaves
-pub in-use-exactly : {r b u : List ℕ} {D n E : ℕ} → Step r D b n E u
-    → (n ≡ 18) ↔ (Fine r × (kind r ≡ 0) × Fits (panelIn (number r) b) (number r) × (2 < leavesIn D b))
+pub in-use-exactly : {first last : ℕ} {r b u : List ℕ} {D n E : ℕ} → Step first last r D b n E u
+    → (n ≡ 18) ↔ (Fine first last r × (kind r ≡ 0) × Fits (panelIn (number r) b) (number r) × (2 < leavesIn D b))
 in-use-exactly (bad f) = (λ e. absurd (omega arith), λ a. absurd (f (a .0)))
-in-use-exactly {r} {b} {u} {D} {n} {E} (call g c) = (to, from)
+in-use-exactly {first} {last} {r} {b} {u} {D} {n} {E} (call g c) = (to, from)
   where
-    to : n ≡ 18 → Fine r × (kind r ≡ 0) × Fits (panelIn (number r) b) (number r) × (2 < leavesIn D b)
+    to : n ≡ 18 → Fine first last r × (kind r ≡ 0) × Fits (panelIn (number r) b) (number r) × (2 < leavesIn D b)
     to e = let (_, z, f, l) = only-in-use c (omega arith) (omega arith) (omega arith) in (g, z, f, l)
 
-    from : Fine r × (kind r ≡ 0) × Fits (panelIn (number r) b) (number r) × (2 < leavesIn D b) → n ≡ 18
+    from : Fine first last r × (kind r ≡ 0) × Fits (panelIn (number r) b) (number r) × (2 < leavesIn D b) → n ≡ 18
     from (_, z, f, l) =
         answers-one (openRows (number r) D b) n 18 (open-answers (subst (λ x. Called (number r) D b x n E u) z c)) (inr (f, inl (λ h. h l, refl)))

@@ -30,7 +30,7 @@ called-refused {D = D} {b = b} (pin {t = t} p) z = (refl, same-changed D b t (p 
 called-refused {D = D} {b = b} (unpin {t = t} p) z = (refl, same-changed D b t (p .refused z))
 
 -- a refused record keeps the panel before it, and every byte of the buffer
-pub step-refused : {r b u : List ℕ} {D n E : ℕ} → Step r D b n E u → n ≢ 0 → (E ≡ D) × (u ≡ b)
+pub step-refused : {first last : ℕ} {r b u : List ℕ} {D n E : ℕ} → Step first last r D b n E u → n ≢ 0 → (E ≡ D) × (u ≡ b)
 step-refused (bad f) z = (refl, refl)
 step-refused (call f p) z = called-refused p z
 
@@ -72,7 +72,7 @@ called-holds h (merge {t = t} p) = held-changed t h (λ g. stays g (λ d. (d .go
 called-holds h (pin {t = t} p) = held-changed t h (λ g. put-stays (omega arith) g p)
 called-holds h (unpin {t = t} p) = held-changed t h (λ g. put-stays (omega arith) g p)
 
-pub step-holds : {r b u : List ℕ} {D n E : ℕ} → Holds D b → Step r D b n E u → Holds E u
+pub step-holds : {first last : ℕ} {r b u : List ℕ} {D n E : ℕ} → Holds D b → Step first last r D b n E u → Holds E u
 step-holds h (bad f) = h
 step-holds h (call f p) = called-holds h p
 
@@ -99,16 +99,16 @@ called-none (pin p) z = ⊎-elim (λ a. a .1) (λ a. absurd (none-right (a .0)))
 called-none (unpin p) z = ⊎-elim (λ a. a .1) (λ a. absurd (none-right (a .0))) (p .answer)
 
 -- a record that is no accepted open is refused ..
-pub step-none : {r b u : List ℕ} {n E : ℕ} → Step r 0 b n E u → (Fine r → kind r ≡ 0 → n ≢ 0) → n ≢ 0
+pub step-none : {first last : ℕ} {r b u : List ℕ} {n E : ℕ} → Step first last r 0 b n E u → (Fine first last r → kind r ≡ 0 → n ≢ 0) → n ≢ 0
 step-none (bad f) h = λ e. omega arith
-step-none {r} {n = n} (call f p) h = go (ℕ-discrete (kind r) 0)
+step-none {r = r} {n = n} (call f p) h = go (ℕ-discrete (kind r) 0)
   where
     go : Dec (kind r ≡ 0) → n ≢ 0
     go (yes e) = h f e
     go (no z) = λ e. omega (arith, called-none p z)
 
 -- .. with 1, where it asks for no open
-pub step-first : {r b u : List ℕ} {D n E : ℕ} → D ≡ 0 → Step r D b n E u → Fine r → kind r ≢ 0 → n ≡ 1
+pub step-first : {first last : ℕ} {r b u : List ℕ} {D n E : ℕ} → D ≡ 0 → Step first last r D b n E u → Fine first last r → kind r ≢ 0 → n ≡ 1
 step-first e (bad g) f z = absurd (g f)
-step-first {r} {b} {u} {n = n} {E = E} e (call g p) f z =
+step-first {r = r} {b = b} {u = u} {n = n} {E = E} e (call g p) f z =
     called-none (subst (λ x. Called (number r) x b (kind r) n E u) e p) z

@@ -44,7 +44,7 @@ called-one {k} {D} {c = suc c} {b = b} x y (pin {n = n} {t = t} p) (pin {n = m} 
 called-one {k} {D} {c = suc c} {b = b} x y (unpin {n = n} {t = t} p) (unpin {n = m} {t = w} q) =
     let e = pin-put-one (panelIn D b) k 0 n m t w (front D b t x) (front D b w y) p q in (e .0, refl, ap (changed D b) (e .1))
 
-pub step-one : {r b u v : List ℕ} {D n m E F : ℕ} → Bytes u → Bytes v → Step r D b n E u → Step r D b m F v → (n ≡ m) × (E ≡ F) × (u ≡ v)
+pub step-one : {first last : ℕ} {r b u v : List ℕ} {D n m E F : ℕ} → Bytes u → Bytes v → Step first last r D b n E u → Step first last r D b m F v → (n ≡ m) × (E ≡ F) × (u ≡ v)
 step-one x y (bad f) (bad g) = (refl, refl, refl)
 step-one x y (bad f) (call g q) = absurd (f g)
 step-one x y (call f p) (bad g) = absurd (g f)

@@ -1,4 +1,4 @@
--- One request record on a lent buffer, by "The request file" and 02, W4 and W7. b is the lent buffer; D is the depth of the panel that is open
+-- One request record on a lent buffer, by "The request file" and 02, W1, W4 and W7. b is the lent buffer; D is the depth of the panel that is open
 -- at the buffer's start, and 0 where none is.
 use mathlib.Core.Logic.{_≢_}
 use mathlib.Core.List.{List, _++_}
@@ -35,7 +35,7 @@ pub data Called (k D : ℕ) (b : List ℕ) : ℕ → ℕ → ℕ → List ℕ �
   pin : {n : ℕ} {t : List ℕ} → Pin (panelIn D b) k n t → Called k D b 3 n D (changed D b t)
   unpin : {n : ℕ} {t : List ℕ} → Unpin (panelIn D b) k n t → Called k D b 4 n D (changed D b t)
 
--- record r answers n, and leaves the panel of depth E in the buffer u: refusal 9 is tested first
-pub data Step (r : List ℕ) (D : ℕ) (b : List ℕ) : ℕ → ℕ → List ℕ → Type 0 where
-  bad : (Fine r → ⊥) → Step r D b 9 D b
-  call : {n E : ℕ} {u : List ℕ} → Fine r → Called (number r) D b (kind r) n E u → Step r D b n E u
+-- record r, of the kinds from `first` to `last`, answers n, and leaves the panel of depth E in the buffer u: refusal 9 is tested first
+pub data Step (first last : ℕ) (r : List ℕ) (D : ℕ) (b : List ℕ) : ℕ → ℕ → List ℕ → Type 0 where
+  bad : (Fine first last r → ⊥) → Step first last r D b 9 D b
+  call : {n E : ℕ} {u : List ℕ} → Fine first last r → Called (number r) D b (kind r) n E u → Step first last r D b n E u

@@ -79,13 +79,13 @@ fn change(panel: &mut [u8], deep: usize, kind: u8, k: u32) -> Answer
     requires { ⌜ Good (now panel) × (deep ≡ deepOf (now panel)) × (1 ≤ kind) × (kind ≤ 4) ⌝ }
     ensures { λ r. ⌜ Change (now (panel .entry)) k kind (answerNumber r) (now (panel .exit)) ⌝ }
 {
-    if kind == 1 {
+    if kind == records::SPLIT {
         return changes::split(panel, deep, Node(k));
     }
-    if kind == 2 {
+    if kind == records::MERGE {
         return changes::merge(panel, deep, Node(k));
     }
-    if kind == 3 {
+    if kind == records::PIN {
         return pinning::put_pin(panel, deep, Node(k), 1);
     }
     pinning::put_pin(panel, deep, Node(k), 0)
@@ -103,15 +103,15 @@ fn change_open(buffer: &mut [u8], deep: usize, kind: u8, k: u32) -> Answer
     change(&mut buffer[..len], deep, kind, k)
 }
 
-// Does what the record asks, and says what it comes to.
-pub fn step(request: &[u8], buffer: &mut [u8], deep: usize) -> Stepped
-    requires { ⌜ Holds deep (now buffer) ⌝ }
-    ensures { λ r. ⌜ Step (now (request .entry)) deep (now (buffer .entry)) (answerNumber (r .answer)) (r .deep) (now (buffer .exit)) ⌝ }
+// Does what the record asks, if it is of a kind from `first` to `last`, and says what it comes to.
+pub fn step(request: &[u8], buffer: &mut [u8], deep: usize, first: u8, last: u8) -> Stepped
+    requires { ⌜ Holds deep (now buffer) × (last ≤ 4) ⌝ }
+    ensures { λ r. ⌜ Step first last (now (request .entry)) deep (now (buffer .entry)) (answerNumber (r .answer)) (r .deep) (now (buffer .exit)) ⌝ }
 {
-    if records::fine(request) {
+    if records::fine(request, first, last) {
         let number = records::number_of(request);
         let kind = request[0];
-        if kind == 0 {
+        if kind == records::OPEN {
             return open(buffer, deep, number);
         }
         let answer = change_open(buffer, deep, kind, number);

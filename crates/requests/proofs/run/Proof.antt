@@ -1,6 +1,7 @@
 -- The part's answers are those of its records in turn, in the place that is lent for them.
 use mathlib.Core.Path.{_≡_, ap, _∙_}
 use Prim.Native.Nat.{min}
+use native.Mathlib.Omega.{arith}
 use lib.ListN.{length}
 use borrow.Author.Needs.{needs}
 use Rattle.records.specs.Records.{countAfter}
@@ -16,7 +17,7 @@ count-here c = c .least .ensures ∙ ap (λ n. min n (length (c .before .before 
 in-turn-requires : tie.Need-in-turn-requires
 in-turn-requires c κs =
     let s = c .before .before .before .before .before .before .before in
-    (s .pre .0, lent-records (s .args .part .now) (s .args .ends) _ _ _ (s .pre .1) (count-here (c .before .before)))
+    (s .pre .0, lent-records (s .args .part .now) (s .args .ends) _ _ _ (s .pre .1) (count-here (c .before .before)), omega arith)
 
 returns : tie.Need-returns
 returns c =

@@ -9,7 +9,7 @@ use Rattle.steps.proofs.step.Statement.{statement}
 use Rattle.steps.proofs.step.Tie as tie
 
 -- past the first test the record is fine
-is-fine : (c : tie.Then1) → Fine (c .before .before .before .before .args .request .now)
+is-fine : (c : tie.Then1) → let a = c .before .before .before .before .args in Fine (a .first) (a .last) (a .request .now)
 is-fine c = c .before .fine .ensures .yes (c .if1 .taken)
 
 number-of-requires : tie.Need-number-of-requires
@@ -28,7 +28,7 @@ returns c =
 change-open-requires : tie.Need-change-open-requires
 change-open-requires c κs =
     let t = c .before .before .before .before in
-    (t .before .before .before .before .pre, omega (arith, c .before .if2 .left), is-fine t .kinds)
+    (t .before .before .before .before .pre .0, omega (arith, c .before .if2 .left), omega (arith, is-fine t .most, t .before .before .before .before .pre .1))
 
 returns-2 : tie.Need-returns-2
 returns-2 c =

@@ -11,19 +11,22 @@ use Rattle.turns.proofs.in_turn.Statement.{statement}
 use Rattle.turns.proofs.in_turn.Tie as tie
 
 abbrev Inv-loop : tie.InvT-loop
-Inv-loop records buffer₀ answers₀ before deep₀ i₀ buffer answers deep i = Filled records before buffer₀ answers₀ buffer answers deep i
+Inv-loop records buffer₀ answers₀ before first last deep₀ i₀ buffer answers deep i = Filled first last records before buffer₀ answers₀ buffer answers deep i
 
 abbrev μ-loop : tie.MeasureT-loop
-μ-loop records buffer₀ answers₀ before deep₀ i₀ buffer answers deep i = length answers₀ - i
+μ-loop records buffer₀ answers₀ before first last deep₀ i₀ buffer answers deep i = length answers₀ - i
 
 loop-holds : tie.Need-loop-holds Inv-loop μ-loop
-loop-holds c = filled-none _ _ _ _
+loop-holds c = filled-none _ _ _ _ _ _
 
 record-at-requires : tie.Need-record-at-requires Inv-loop μ-loop
 record-at-requires c κs = omega (arith, c .loop-test .taken, c .before .loop .inv .long, c .before .before .before .before .before .pre .1)
 
 step-requires : tie.Need-step-requires Inv-loop μ-loop
-step-requires c κs = let l = c .before .before .before in runs-holds (l .before .before .before .before .pre .0) (l .loop .inv .runs)
+step-requires c κs =
+    let l = c .before .before .before in
+    let p = l .before .before .before .before .pre in
+    (runs-holds (p .0) (l .loop .inv .runs), p .2)
 
 cast-answers : tie.Need-cast-answers Inv-loop μ-loop
 cast-answers c = record { fits = subst (λ n. n < 256) (sym (c .number .ensures)) (answer-byte (c .before .before .before .step .result .answer)) }
