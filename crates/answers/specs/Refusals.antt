@@ -1,10 +1,10 @@
--- The number and the values that "When the scanner says no" and 02, W4 and W7, give to each case of an answer. Beside a refusal every other number is 0,
+-- The number and the values that "When the scanner says no" and 02, W1, W4 and W7, give to each case of an answer. Beside a refusal every other number is 0,
 -- but for the ancestor beside 10.
 use mathlib.Core.Bool.{true, false}
 use Prim.Native.Nat.{ℕ}
 use Rattle.nodes.specs.declared.triples.Triple.{Triple}
 use Rattle.answers.specs.declared.Refusal.{Refusal}
-use Rattle.answers.specs.declared.Refusal.the-variants.{WrongLength, NotGood, NoSuchNode, IsCut, AtGreatestDepth, AtDepthOne, LeavesMissing, NoSuchNumber, BadRecord, BelowLeaf, LeafPinned, PanelInUse}
+use Rattle.answers.specs.declared.Refusal.the-variants.{WrongLength, NotGood, NoSuchNode, IsCut, AtGreatestDepth, AtDepthOne, LeavesMissing, NoSuchNumber, BadRecord, BelowLeaf, LeafPinned, NoRoom, BytesLeft, PanelInUse}
 use Rattle.answers.specs.declared.Answer.{Answer}
 use Rattle.answers.specs.declared.Answer.the-variants as answer
 use Rattle.answers.specs.declared.Counted.{Counted}
@@ -31,6 +31,8 @@ refusalNumber NoSuchNumber = 8
 refusalNumber BadRecord = 9
 refusalNumber (BelowLeaf k) = 10
 refusalNumber LeafPinned = 11
+refusalNumber NoRoom = 16
+refusalNumber BytesLeft = 17
 refusalNumber PanelInUse = 18
 
 -- the ancestor beside each: the leaf that the node lies below, and else 0
@@ -46,6 +48,8 @@ refusalAncestor NoSuchNumber = 0
 refusalAncestor BadRecord = 0
 refusalAncestor (BelowLeaf k) = k .0
 refusalAncestor LeafPinned = 0
+refusalAncestor NoRoom = 0
+refusalAncestor BytesLeft = 0
 refusalAncestor PanelInUse = 0
 
 abbrev pub answerNumber : Answer → ℕ

@@ -5,7 +5,7 @@ use nodes::Triple;
 ghost use mathlib.Core.Path.{_≡_};
 ghost use Rattle.answers.specs.Refusals.{refusalNumber, refusalAncestor, answerNumber, answerAncestor, countedNumber, countedLeaves, foundNumber, foundNode, numberedNumber, numberedLeaf, numberedAncestor, pinningNumber, pinningBit, pinningAncestor, aroundNumber, aroundTriple};
 
-// Why a call is refused, in the order of the customer's numbers: 1 to 11, and 18. A node that lies below a leaf is refused with that leaf.
+// Why a call is refused, in the order of the customer's numbers: 1 to 11, and 16 to 18. A node that lies below a leaf is refused with that leaf.
 pub enum Refusal {
     WrongLength,
     NotGood,
@@ -18,6 +18,8 @@ pub enum Refusal {
     BadRecord,
     BelowLeaf(Node),
     LeafPinned,
+    NoRoom,
+    BytesLeft,
     PanelInUse,
 }
 
@@ -37,6 +39,8 @@ impl Refusal {
             Refusal::BadRecord => 9,
             Refusal::BelowLeaf(_) => 10,
             Refusal::LeafPinned => 11,
+            Refusal::NoRoom => 16,
+            Refusal::BytesLeft => 17,
             Refusal::PanelInUse => 18,
         }
     }
@@ -57,6 +61,8 @@ impl Refusal {
             Refusal::BadRecord => 0,
             Refusal::BelowLeaf(k) => k.0,
             Refusal::LeafPinned => 0,
+            Refusal::NoRoom => 0,
+            Refusal::BytesLeft => 0,
             Refusal::PanelInUse => 0,
         }
     }

@@ -46,6 +46,8 @@ use Rattle.steps.proofs.Exactness.{nine-exactly, in-use-exactly}
 use Rattle.steps.proofs.Keeping.{step-refused}
 use Rattle.steps.proofs.Once.{step-one}
 use Rattle.turns.specs.Turns.{Runs}
+use Rattle.rounds.specs.Rounds.{Turn, Lent, roundRows, Round}
+use Rattle.rounds.proofs.Once.{turn-one, turn-nine, turn-refused, round-one}
 use Rattle.requests.specs.Requests.{Part, Run, Parts, Ended}
 use Rattle.requests.proofs.Keeping.{run-holds, ended-holds, NoneDone}
 use Rattle.requests.proofs.Once.{part-one, run-one}
@@ -59,6 +61,7 @@ use Rattle.evidence.proofs.Held.{Held, Since, never-covered}
 use Rattle.evidence.proofs.Known.{known}
 use Rattle.evidence.proofs.NoLeaf.{WhyNoLeaf, why-no-leaf, SaysWhy, says-why}
 use Rattle.evidence.proofs.Numbers.{NumbersName, numbers-name, number-of-leaf-at, leaf-at-number-of}
+use Rattle.evidence.proofs.Rounds.{round-reached, round-since}
 use Rattle.evidence.proofs.Scans.{ScanKept, run-keeps-scan, runs-stay, runs-grow}
 use Rattle.evidence.proofs.ThereAndBack.{PinnedAround}
 use Rattle.evidence.proofs.Sequences.{Reached, always-good, always-covers, always-long-side, split-grows, back-answers, back-restores, again-restores}
@@ -108,7 +111,12 @@ pub record Demand1 : Type 0 where
   pub ancestor : (s : List ℕ) (k n a b : ℕ) → Ancestor s k n a → Ancestor s k n b → a ≡ b
   pub neighbours : (n : ℕ) → Settled (nodeRows n) Triple (Any Triple) none (Neighbours n)
   pub corners : (n : ℕ) → Settled (nodeRows n) Triangle (Any Triangle) noCorners (Corners n)
-  -- one record: 9 exactly where it is bad, 18 exactly where it asks for an open that fits, over more than two leaves, and else its call's
+  -- a round; and one record of it: 9 exactly where it is no fine split or merge, and else its call's answer; a refused one changes nothing
+  pub round : (s rs out : List ℕ) → Settled (roundRows s rs out) Lent (Any Lent) (record { panel = s; answers = out }) (Round s rs out)
+  pub turn : {r s t u : List ℕ} {n m : ℕ} → Bytes t → Bytes u → Turn r s n t → Turn r s m u → (n ≡ m) × (t ≡ u)
+  pub turn-bad : {r s t : List ℕ} {n : ℕ} → Turn r s n t → (n ≡ 9) ↔ (Fine 1 2 r → ⊥)
+  pub turn-keeps : {r s t : List ℕ} {n : ℕ} → Turn r s n t → n ≢ 0 → t ≡ s
+  -- one record of a request file: 9 exactly where it is bad, 18 exactly where it asks for an open that fits, over more than two leaves, and else its call's
   -- answer; a refused one; a part of the input, and a run of records
   pub step : {r b u v : List ℕ} {D n m E F : ℕ} → Bytes u → Bytes v → Step 0 4 r D b n E u → Step 0 4 r D b m F v → (n ≡ m) × (E ≡ F) × (u ≡ v)
   pub step-bad : {r b u : List ℕ} {D n E : ℕ} → Step 0 4 r D b n E u → (n ≡ 9) ↔ (Fine 0 4 r → ⊥)
@@ -162,6 +170,10 @@ demand-1 = record {
   ancestor = ancestor-one;
   neighbours = λ n. settled _ _ _ _ _ (omega arith) (λ a b x y _ _. neighbours-one n a b x y);
   corners = λ n. settled _ _ _ _ _ (omega arith) (λ a b x y _ _. corners-one n a b x y);
+  round = λ s rs out. settled _ _ _ _ _ (omega arith) (λ n m x y _ _. round-one s rs out n m x y);
+  turn = turn-one;
+  turn-bad = turn-nine;
+  turn-keeps = turn-refused;
   step = step-one;
   step-bad = nine-exactly;
   step-in-use = in-use-exactly;
@@ -283,6 +295,8 @@ pub record Demand3 : Type 0 where
   pub good : {t : List ℕ} → Reached t → Good t
   pub covers : {t : List ℕ} → Reached t → CoverOnce (deepOf t) (CutOf t)
   pub long-side : {t : List ℕ} → Reached t → (n : ℕ) → 2 ≤ n → CutOf t n → edge n ≢ 0 → CutOf t (edge n)
+  -- a round leads to no panel that single calls don't lead to
+  pub round : {s rs out : List ℕ} {n : ℕ} {x : Lent} → Reached s → Round s rs out n x → Reached (x .panel)
   pub after-records : {rs b out u after : List ℕ} {count D : ℕ} → Run rs b out count D u after → Holds D u
   -- no record of a run loses a scan; and from any record of it on the panel stays open, and has no fewer leaves where no merge is accepted
   pub scan : {rs b given t u : List ℕ} {D n E : ℕ} → Runs 0 4 rs 0 b given D t → Step 0 4 (recordAt rs (length given)) D t n E u → ScanKept (recordAt rs (length given)) D t n E u
@@ -295,6 +309,7 @@ pub record Demand3 : Type 0 where
   pub exact : {s : List ℕ} {k : ℕ} {t : List ℕ} → Merge s k 0 t → MergeAt s k t
   -- a pinned leaf's triangle is never covered by a coarser leaf: it is a leaf or is cut, and every leaf inside it is pinned
   pub held : {s t : List ℕ} {l : ℕ} → Good s → LeafOf s l → Pinned s l → Since s l t → Held t l
+  pub held-round : {s t rs out : List ℕ} {l n : ℕ} {x : Lent} → Since s l t → Round t rs out n x → Since s l (x .panel)
   -- after a split its merge is accepted, or refused with 11 exactly where it meets a pin that was passed on; it leads back exactly where k's edge neighbour was
   -- none or a leaf; after a merge the split leads back
   pub accepted : {s : List ℕ} {k : ℕ} {t : List ℕ} → Split s k 0 t → (n : ℕ) (u : List ℕ) → Merge t (2 * k) n u
@@ -307,6 +322,7 @@ demand-3 = record {
   good = always-good;
   covers = always-covers;
   long-side = always-long-side;
+  round = round-reached;
   after-records = run-holds;
   scan = run-keeps-scan;
   open-on = λ h r. runs-stay h r;
@@ -315,6 +331,7 @@ demand-3 = record {
   bounded = split-grows;
   exact = λ o. o .done refl;
   held = never-covered;
+  held-round = round-since;
   accepted = back-answers;
   back = back-restores;
   again = again-restores;

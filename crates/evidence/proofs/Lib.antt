@@ -7,6 +7,7 @@ pub mod Known
 pub mod NoLeaf
 pub mod Numbers
 pub mod Saying
+pub mod Rounds
 pub mod Scans
 pub mod Sequences
 pub mod Testing

@@ -2,6 +2,7 @@
 use nodes::LeafNumber;
 use nodes::Node;
 ghost use Rattle.panel.specs.Calls.{Open, Judged, Count, LeafAt, Ancestor, NumberOf, PinOf, Split, Merge, Pin, Unpin};
+ghost use Rattle.rounds.specs.Rounds.{Round};
 ghost use Rattle.jolpibhar.specs.Parts.{LeafBytes};
 
 // Opens the panel: writes every byte of it, or refuses with 1 and writes none.
@@ -119,4 +120,12 @@ pub extern "C" fn panel_unpin(panel: &mut [u8], node: u32, ancestor: &mut u32) -
     let unpinned = calls::unpin(panel, Node(node));
     *ancestor = unpinned.ancestor();
     unpinned.number()
+}
+
+// Works through records of splits and merges in turn, an answer byte for each, or refuses and writes no byte.
+#[no_mangle]
+pub extern "C" fn panel_round(panel: &mut [u8], records: &[u8], answers: &mut [u8]) -> u32
+    ensures { λ r. ⌜ Round (now (panel .entry)) (now (records .entry)) (now (answers .entry)) r (record { panel = now (panel .exit); answers = now (answers .exit) }) ⌝ }
+{
+    rounds::round(panel, records, answers).number()
 }

@@ -10,9 +10,13 @@ pub const MOST_RECORDS: usize = 4096;
 
 // The kinds of records.
 pub const OPEN: u8 = 0;
+
 pub const SPLIT: u8 = 1;
+
 pub const MERGE: u8 = 2;
+
 pub const PIN: u8 = 3;
+
 pub const UNPIN: u8 = 4;
 
 // Whether the record is whole, of a kind from `first` to `last`, and its spare bytes are zero.

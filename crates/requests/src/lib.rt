@@ -25,6 +25,13 @@ pub fn run(part: &[u8], ends: bool, buffer: &mut [u8], answers: &mut [u8], befor
 {
     let first = before.count;
     let count = least(count_after(first, part, ends), answers.len());
-    let deep = in_turn(part, buffer, &mut answers[first..count], before.deep, OPEN, UNPIN);
+    let deep = in_turn(
+        part,
+        buffer,
+        &mut answers[first..count],
+        before.deep,
+        OPEN,
+        UNPIN,
+    );
     Ran { count, deep }
 }

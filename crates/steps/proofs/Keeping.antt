@@ -47,7 +47,7 @@ holds-changed D b t g d l =
 
 -- the panel after a call by a table is good, and as long as before
 module _ {rows : List Row} {Done : List ℕ → Type 0} {s : List ℕ} {n : ℕ} {t : List ℕ} where
-  stays : Good s → (Done t → Good t × (length t ≡ length s)) → Outcome rows (List ℕ) Done (λ x. x ≡ s) n t → Good t × (length t ≡ length s)
+  pub stays : Good s → (Done t → Good t × (length t ≡ length s)) → Outcome rows (List ℕ) Done (λ x. x ≡ s) n t → Good t × (length t ≡ length s)
   stays g f o = go (ℕ-discrete n 0)
     where
       go : Dec (n ≡ 0) → Good t × (length t ≡ length s)
