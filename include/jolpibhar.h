@@ -1,18 +1,18 @@
 /* The panel scanner's calls for C. README.md says what each does.
  *
  * Each call returns the answer's number: PANEL_DONE, or why it is refused. Beside a refusal every number that
- * a call writes through a pointer is 0, but for the ancestor beside PANEL_BELOW_LEAF, and all bytes of the panel are
- * as before.
+ * a call writes through a pointer is 0, but for the ancestor beside PANEL_BELOW_LEAF, and all lent bytes, of the panel and
+ * of a round's answers, are as before.
  *
  * panel_number, panel_pinned, panel_split, panel_merge, panel_pin and panel_unpin write an ancestor: beside
  * PANEL_BELOW_LEAF the one leaf among the node's ancestors, and 0 beside every other answer, PANEL_DONE too.
  *
- * A panel is lent as a pointer and its length in bytes, `len`. Pointers are not null, also where the length is 0, and
- * no two arguments of one call point to the same place. A call keeps no pointer and writes nothing outside
- * the `len` bytes and the numbers it is asked for.
+ * A panel is lent as a pointer and its length in bytes, `len`; so are a round's records and answers. Pointers are not null,
+ * also where the length is 0, and no two arguments of one call lend the same byte. A call keeps no pointer and writes nothing
+ * outside the bytes and the numbers that it is lent to write.
  *
- * Threads: calls share nothing, there is no global state. Calls on different panels may run at the same time; a panel that
- * a call writes is lent to that one call alone.
+ * Threads: calls share nothing, there is no global state. Calls on different panels may run at the same time; what
+ * a call writes, panel or answers, is lent to that one call alone.
  * Platforms: the archive is for x86-64 Linux; on an Arm machine `.ci/archive` compiles the same modules for that one. Numbers and
  * bytes are the same on any machine.
  */
@@ -23,15 +23,18 @@
 #include <stdint.h>
 
 #define JOLPIBHAR_VERSION_MAJOR 0
-#define JOLPIBHAR_VERSION_MINOR 6
+#define JOLPIBHAR_VERSION_MINOR 7
 #define JOLPIBHAR_VERSION_PATCH 0
-#define JOLPIBHAR_VERSION "0.6.0"
+#define JOLPIBHAR_VERSION "0.7.0"
 
 /* The depth of the finest panel; the coarsest is of depth 3. */
 #define PANEL_GREATEST_DEPTH 17
 
 /* The bytes of a panel of depth D, 2^(D-1) + 2^(D-3). Where D is a constant it is one too: uint8_t panel[PANEL_BYTES(PANEL_GREATEST_DEPTH)]; */
 #define PANEL_BYTES(D) ((size_t)5 << ((D) - 3))
+
+/* The bytes of a record: its kind, three zero bytes, and then a node as four bytes, lowest first. They are those of a request file. */
+#define PANEL_RECORD_BYTES 8
 
 #ifdef __cplusplus
 extern "C" {
@@ -50,8 +53,16 @@ enum {
     PANEL_LEAVES_MISSING = 7,    /* leaf is deeper, but not all the leaves the merge needs are there */
     PANEL_LEAF_PINNED = 11,      /* the merge would remove a pinned leaf, on the leaf's own side or across the long side */
     PANEL_NO_SUCH_NUMBER = 8,    /* leaf number is at or above the count */
-    PANEL_BAD_RECORD = 9,        /* given by the program, never by these calls; tested before all others */
+    PANEL_NO_ROOM = 16,          /* what is lent for the answers has fewer bytes than there are whole records */
+    PANEL_BYTES_LEFT = 17,       /* bytes are left over behind the last whole record */
+    PANEL_BAD_RECORD = 9,        /* bad record: given in a round, for one record, and by the program, never by the other calls; tested before its others */
     PANEL_IN_USE = 18            /* given by the program, never by these calls: an open while its panel has more than two leaves */
+};
+
+/* The kinds of record that a round takes. */
+enum {
+    PANEL_RECORD_SPLIT = 1,
+    PANEL_RECORD_MERGE = 2
 };
 
 /* ---- calls that take no panel: nodes from 2 to 262,143 */
@@ -101,6 +112,12 @@ uint32_t panel_pin(uint8_t *panel, size_t len, uint32_t node, uint32_t *ancestor
 
 /* Takes a leaf's pin away. It may have none. Answers 0, 1, 2, 3, 4, 10. */
 uint32_t panel_unpin(uint8_t *panel, size_t len, uint32_t node, uint32_t *ancestor);
+
+/* A round: works through records in order, with the panel judged once. Each is a panel_split or a panel_merge, and answers[i] becomes the
+ * answer of record i: 0, 9, 3, 4, 10, 5, 6, 7 or 11, in one byte and with no ancestor. It is 9 where the kind is another or a spare byte isn't
+ * zero. A record that is refused changes nothing, and the round goes on. Bytes past the last answer stay. There may be any number of
+ * records, also none. Beside a refusal of the round neither the panel nor an answer is written. Answers 0, 1, 2, 16, 17. */
+uint32_t panel_round(uint8_t *panel, size_t len, const uint8_t *records, size_t records_len, uint8_t *answers, size_t answers_len);
 
 #ifdef __cplusplus
 }
