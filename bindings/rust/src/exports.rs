@@ -39,6 +39,14 @@ mod archive {
         pub fn panel_merge(panel: *mut u8, len: usize, node: u32, ancestor: *mut u32) -> u32;
         pub fn panel_pin(panel: *mut u8, len: usize, node: u32, ancestor: *mut u32) -> u32;
         pub fn panel_unpin(panel: *mut u8, len: usize, node: u32, ancestor: *mut u32) -> u32;
+        pub fn panel_round(
+            panel: *mut u8,
+            len: usize,
+            records: *const u8,
+            records_len: usize,
+            answers: *mut u8,
+            answers_len: usize,
+        ) -> u32;
     }
 }
 
@@ -140,4 +148,18 @@ pub fn unpin(panel: &mut [u8], node: u32, before: u32) -> (u32, u32) {
     let mut ancestor = before;
     let answer = unsafe { archive::panel_unpin(panel.as_mut_ptr(), panel.len(), node, &mut ancestor) };
     (answer, ancestor)
+}
+
+#[inline]
+pub fn round(panel: &mut [u8], records: &[u8], answers: &mut [u8]) -> u32 {
+    unsafe {
+        archive::panel_round(
+            panel.as_mut_ptr(),
+            panel.len(),
+            records.as_ptr(),
+            records.len(),
+            answers.as_mut_ptr(),
+            answers.len(),
+        )
+    }
 }

@@ -9,7 +9,7 @@
 //! k is cut into 2k and 2k + 1. A [`LeafNumber`] counts the leaves, the triangles that are there at the moment, from 0 on the left.
 //!
 //! ```
-//! use jolpibhar::{LeafNumber, Node, Panel, Refusal};
+//! use jolpibhar::{LeafNumber, Node, Panel, Records, Refusal};
 //!
 //! let mut panel = Panel::fresh(3)?; // leaves 2 and 3
 //! panel.split(Node(2))?; // and 3 with it: triangles meet side to side
@@ -31,6 +31,13 @@
 //! panel.merge(Node(9))?; // takes the cut of 4 back
 //! assert_eq!(panel.count()?, 4);
 //!
+//! let mut records = Records::new(); // many splits and merges in one call, which judges the panel once
+//! records.split(Node(4)).split(Node(10)).merge(Node(9));
+//! let mut answers = [0xFF; 3];
+//! panel.round(records.bytes(), &mut answers)?;
+//! assert_eq!(answers, [0, 10, 0]); // 5 is the leaf above node 10; what is refused changes nothing, and the round goes on
+//! assert_eq!(panel.count()?, 4);
+//!
 //! let around = Node(8).neighbours()?; // at its own depth, whether they are leaves or not
 //! assert_eq!((around.left, around.right, around.edge), (Some(Node(9)), None, Some(Node(15))));
 //! assert_eq!(Node(10).corners()?, [[0, 0], [128, 0], [128, 128]]); // counterclockwise, and the long side is from first to last
@@ -41,8 +48,10 @@
 
 #[doc(hidden)]
 pub mod exports;
+mod records;
 mod refusal;
 
+pub use records::Records;
 pub use refusal::Refusal;
 
 /// The depth of the finest panel. The coarsest is of depth 3; a panel of depth D has 2^(D−1) + 2^(D−3) bytes.
@@ -184,6 +193,14 @@ impl<B: AsRef<[u8]> + AsMut<[u8]>> Panel<B> {
     pub fn unpin(&mut self, leaf: Node) -> Result<(), Refusal> {
         let (answer, ancestor) = exports::unpin(self.0.as_mut(), leaf.0, 0);
         done_or_below(answer, ancestor, ())
+    }
+
+    /// A round: works through records of eight bytes in order, with the panel judged once. [`Records`] makes them. Each is a split or a merge,
+    /// and `answers[i]` becomes the number that answers record i: 0, or 9, 3, 4, 10, 5, 6, 7, 11 where it is refused. That changes nothing, and
+    /// the round goes on; beside 10 no ancestor is given. Bytes past the last answer stay. Refused: 1, 2, 16, 17; then neither the panel nor
+    /// `answers` has changed.
+    pub fn round(&mut self, records: &[u8], answers: &mut [u8]) -> Result<(), Refusal> {
+        done(exports::round(self.0.as_mut(), records, answers), ())
     }
 }
 

@@ -29,7 +29,12 @@ pub enum Refusal {
     LeafPinned,
     /// 8: there are not so many leaves.
     NoSuchNumber,
-    /// 9: a bad record. Given by the scanner program, which tests it first, never by a call.
+    /// 16: what is lent for the answers has fewer bytes than there are whole records.
+    NoRoom,
+    /// 17: bytes are left over behind the last whole record.
+    BytesLeft,
+    /// 9: a bad record. Given in a round as the byte of one record, and by the scanner program; tested before a record's others. No call is
+    /// refused with it.
     BadRecord,
     /// 18: an open while the panel has more than two leaves. Given by the scanner program, never by a call.
     PanelInUse,
@@ -49,6 +54,8 @@ impl Refusal {
             Refusal::LeavesMissing => 7,
             Refusal::LeafPinned => 11,
             Refusal::NoSuchNumber => 8,
+            Refusal::NoRoom => 16,
+            Refusal::BytesLeft => 17,
             Refusal::BadRecord => 9,
             Refusal::PanelInUse => 18,
         }
@@ -68,6 +75,8 @@ impl Refusal {
             (7, 0) => Some(Refusal::LeavesMissing),
             (11, 0) => Some(Refusal::LeafPinned),
             (8, 0) => Some(Refusal::NoSuchNumber),
+            (16, 0) => Some(Refusal::NoRoom),
+            (17, 0) => Some(Refusal::BytesLeft),
             (9, 0) => Some(Refusal::BadRecord),
             (18, 0) => Some(Refusal::PanelInUse),
             _ => None,
@@ -88,6 +97,8 @@ impl fmt::Display for Refusal {
             Refusal::LeavesMissing => "not all the leaves that the merge needs are there",
             Refusal::LeafPinned => "the merge would remove a pinned leaf",
             Refusal::NoSuchNumber => "there are not so many leaves",
+            Refusal::NoRoom => "there are fewer bytes for answers than records",
+            Refusal::BytesLeft => "bytes are left over behind the last record",
             Refusal::BadRecord => "the record is bad",
             Refusal::PanelInUse => "the panel has more than two leaves",
         })

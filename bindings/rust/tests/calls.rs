@@ -1,6 +1,6 @@
 //! The crate's own part: that numbers become the right types, and that a panel may stand over bytes of any owner.
 
-use jolpibhar::{LeafNumber, Neighbours, Node, Panel, Refusal, GREATEST_DEPTH};
+use jolpibhar::{LeafNumber, Neighbours, Node, Panel, Records, Refusal, GREATEST_DEPTH};
 
 /// The panel of depth 3 with the leaves 8, 9, 5, 6, 7.
 fn five() -> Panel<Vec<u8>> {
@@ -27,6 +27,8 @@ fn every_refusal_of_a_call() {
     pinned.pin(Node(8)).unwrap();
     assert_eq!(pinned.merge(Node(9)), Err(Refusal::LeafPinned));
     assert_eq!(five().leaf_at(LeafNumber(5)), Err(Refusal::NoSuchNumber));
+    assert_eq!(five().round(&[0; 8], &mut []), Err(Refusal::NoRoom));
+    assert_eq!(five().round(&[0; 7], &mut []), Err(Refusal::BytesLeft));
 }
 
 #[test]
@@ -117,13 +119,13 @@ fn corners_and_the_sides_of_neighbours() {
 
 #[test]
 fn numbers_of_refusals() {
-    for number in (1..=9).chain([11, 18]) {
+    for number in (1..=9).chain([11, 16, 17, 18]) {
         let alone = Refusal::of_answer(number, 0).unwrap();
         assert_eq!((alone.number(), Refusal::of_answer(number, 4)), (number, None));
     }
     let below = Refusal::BelowLeaf(Node(4));
     assert_eq!((below.number(), Refusal::of_answer(10, 4)), (10, Some(below)));
-    for other in [(0, 0), (0, 4), (10, 0), (10, 1), (12, 0), (17, 0), (19, 0), (u32::MAX, 0)] {
+    for other in [(0, 0), (0, 4), (10, 0), (10, 1), (12, 0), (15, 0), (19, 0), (u32::MAX, 0)] {
         assert_eq!(Refusal::of_answer(other.0, other.1), None);
     }
     assert_eq!(Refusal::IsCut.to_string(), "the node is itself cut");
@@ -159,4 +161,100 @@ fn leaves_and_numbers() {
         let number = LeafNumber(number as u32);
         assert_eq!((panel.leaf_at(number), panel.number_of(node)), (Ok(node), Ok(number)));
     }
+}
+
+/// A split (true) or a merge of each node.
+fn records(asked: &[(bool, u32)]) -> Records {
+    let mut records = Records::new();
+    for (split, node) in asked {
+        if *split {
+            records.split(Node(*node));
+        } else {
+            records.merge(Node(*node));
+        }
+    }
+    records
+}
+
+#[test]
+fn a_round_is_its_single_calls() {
+    for depth in [3, 5, 9, GREATEST_DEPTH] {
+        let mut single = Panel::fresh(depth).unwrap();
+        single.pin(Node(3)).unwrap();
+        let mut panel = single.clone();
+        // every node of the first five depths, and some that no panel has, is split, merged and split again
+        let asked: Vec<(bool, u32)> =
+            [true, false, true].iter().flat_map(|split| (0..70).map(|node| (*split, node))).collect();
+        let records = records(&asked);
+        let mut answers = vec![0xFF; records.len()];
+        panel.round(records.bytes(), &mut answers).unwrap();
+        for ((split, node), answer) in asked.into_iter().zip(answers) {
+            let told = if split { single.split(Node(node)) } else { single.merge(Node(node)) };
+            assert_eq!(u32::from(answer), told.map_or_else(Refusal::number, |()| 0), "{node} at {depth}");
+        }
+        assert_eq!(panel, single);
+    }
+}
+
+#[test]
+fn answers_past_the_last_stay() {
+    let mut panel = five();
+    let mut answers = [0xEE; 5];
+    panel.round(records(&[(true, 5), (true, 8), (false, 16)]).bytes(), &mut answers).unwrap();
+    assert_eq!(answers, [0, 5, 3, 0xEE, 0xEE]);
+    panel.round(Records::new().bytes(), &mut answers).unwrap();
+    panel.round(&[], &mut []).unwrap();
+    assert_eq!(answers, [0, 5, 3, 0xEE, 0xEE]);
+    assert_eq!(panel.count(), Ok(6));
+}
+
+#[test]
+fn bad_records_of_a_round() {
+    let split_5 = [1, 0, 0, 0, 5, 0, 0, 0];
+    let with = |place: usize, byte| {
+        let mut record = split_5;
+        record[place] = byte;
+        record
+    };
+    let bad = [(0, 0), (0, 3), (0, 4), (0, 5), (0, 0xFF), (1, 1), (2, 0x80), (3, 2)];
+    let run: Vec<u8> = bad.iter().flat_map(|(place, byte)| with(*place, *byte)).chain(split_5).collect();
+    let (mut panel, mut answers) = (five(), [0xEE; 9]);
+    panel.round(&run[..64], &mut answers).unwrap();
+    assert_eq!((panel, answers), (five(), [9, 9, 9, 9, 9, 9, 9, 9, 0xEE]));
+    let mut panel = five();
+    panel.round(&run, &mut answers).unwrap();
+    assert_eq!((panel.count(), answers), (Ok(6), [9, 9, 9, 9, 9, 9, 9, 9, 0]));
+}
+
+/// The round is refused with this number, and neither the panel nor an answer has changed.
+fn refused(panel: &[u8], records: &[u8], answers: usize, why: Refusal) {
+    let (mut lent, mut written) = (Panel::over(panel.to_vec()), vec![0xEE; answers]);
+    assert_eq!(lent.round(records, &mut written), Err(why));
+    assert_eq!((lent.bytes(), written), (panel, vec![0xEE; answers]));
+}
+
+#[test]
+fn refused_rounds_write_nothing() {
+    let good = five().into_bytes();
+    let records = [records(&[(true, 5), (true, 6)]).bytes(), &[1, 0, 0]].concat();
+    refused(&good, &records[..16], 1, Refusal::NoRoom);
+    refused(&good, &records[..16], 0, Refusal::NoRoom);
+    refused(&good, &records, 1, Refusal::NoRoom);
+    refused(&good, &records, 2, Refusal::BytesLeft);
+    refused(&good, &records, 3, Refusal::BytesLeft);
+    refused(&good, &records[..1], 0, Refusal::BytesLeft);
+    for (panel, why) in [(&good[..4], Refusal::WrongLength), (&[0; 5], Refusal::NotGood)] {
+        for (length, answers) in [(16, 2), (16, 1), (19, 2), (19, 1), (0, 0)] {
+            refused(panel, &records[..length], answers, why);
+        }
+    }
+}
+
+#[test]
+fn made_records() {
+    assert_eq!((Records::new().len(), Records::new().is_empty(), Records::new().bytes()), (0, true, &[][..]));
+    let records = records(&[(true, 2), (false, 0x0403_0201), (false, u32::MAX)]);
+    assert_eq!((records.len(), records.is_empty()), (3, false));
+    let bytes = [[1, 0, 0, 0, 2, 0, 0, 0], [2, 0, 0, 0, 1, 2, 3, 4], [2, 0, 0, 0, 0xFF, 0xFF, 0xFF, 0xFF]];
+    assert_eq!(records.bytes(), bytes.concat());
 }
