@@ -3,8 +3,9 @@
 //! "the ancestor is the one number not 0 that a refusal returns"
 
 use crate::panel::{length_of, Panel};
+use crate::requests::{in_round, RECORD};
 use crate::triangles::{self, Neighbours, Triangle};
-use crate::{Answer, WRONG_LENGTH};
+use crate::{Answer, BYTES_LEFT, NO_ROOM, WRONG_LENGTH};
 
 /// The answer's number, the value or, beside a refusal, zeros, and the ancestor.
 pub fn told_with_ancestor<T: Default>(answer: Answer<T>) -> (u32, (T, u32)) {
@@ -100,4 +101,28 @@ pub fn pin(bytes: &mut [u8], node: u32) -> (u32, u32) {
 
 pub fn unpin(bytes: &mut [u8], node: u32) -> (u32, u32) {
     change(bytes, |panel| panel.unpin(node))
+}
+
+/// "A bad panel, fewer answer bytes than whole records (16, tested after 1 and 2) or bytes left over (17, tested last): nothing is written."
+fn try_round(bytes: &mut [u8], records: &[u8], answers: &mut [u8]) -> Answer<()> {
+    let mut panel = Panel::read(bytes)?;
+    let whole = records.chunks_exact(RECORD);
+    if answers.len() < whole.len() {
+        return Err(NO_ROOM);
+    }
+    if !whole.remainder().is_empty() {
+        return Err(BYTES_LEFT);
+    }
+    for (record, answer) in whole.zip(answers) {
+        let (number, ()) = told(in_round(&mut panel, record));
+        *answer = u8::try_from(number).expect("a number of the table");
+    }
+    store(bytes, &panel);
+    Ok(())
+}
+
+/// "one call that takes a lent run of request records and writes one answer byte a record into a second lent buffer, judging the panel
+/// once. Bytes and answers equal those of the single calls in order [..]. Bytes past the last answer stay."
+pub fn round(bytes: &mut [u8], records: &[u8], answers: &mut [u8]) -> u32 {
+    told(try_round(bytes, records, answers)).0
 }

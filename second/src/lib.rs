@@ -3,7 +3,7 @@
 //! shares a side. It is slow and plain, and it shares no code and no way of computing with the proved
 //! crates, so that the two can be held against each other.
 //!
-//! Answers are document 01's numbers, 0 for done, with those of requests W4, what 4 means now, 10 and 18, and W7, 11.
+//! Answers are document 01's numbers, 0 for done, with those of requests W4, what 4 means now, 10 and 18, W7, 11, and W1, 16 and 17.
 
 pub mod calls;
 pub mod panel;
@@ -39,6 +39,10 @@ pub const LEAVES_MISSING: Refusal = alone(7);
 pub const LEAF_PINNED: Refusal = alone(11);
 /// "leaf number is at or above the count"
 pub const NO_SUCH_NUMBER: Refusal = alone(8);
+/// "fewer answer bytes than whole records"
+pub const NO_ROOM: Refusal = alone(16);
+/// "bytes left over"
+pub const BYTES_LEFT: Refusal = alone(17);
 /// "bad record"
 pub const BAD_RECORD: Refusal = alone(9);
 /// "an open while its panel has more than two leaves"

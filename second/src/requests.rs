@@ -97,6 +97,17 @@ pub fn run(file: &[u8]) -> Run {
     run
 }
 
+// ---- a round
+
+/// One record of a round: "an open, a kind above 2 or a spare byte not zero is 9 for that record"; kinds 3 and 4 too, "in a round both are 9".
+pub fn in_round(panel: &mut Panel, record: &[u8]) -> Answer<()> {
+    match decode(record)? {
+        (1, node) => panel.split(node),
+        (2, node) => panel.merge(node),
+        _ => Err(BAD_RECORD),
+    }
+}
+
 // ---- text
 
 /// The records of a text: `open 3`, `split 2`, `merge 5`, `pin 4` or `unpin 4` on a line, `#` before a comment, and for
