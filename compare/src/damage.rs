@@ -171,7 +171,7 @@ fn random_bytes(depth: u32, random: &mut Random) -> Vec<u8> {
 }
 
 /// Bytes of a length that no panel has: random, zeros, or a good panel cut short or drawn out.
-fn wrong_length(length: usize, random: &mut Random) -> Vec<u8> {
+pub fn wrong_length(length: usize, random: &mut Random) -> Vec<u8> {
     let mut bytes = match random.below(3) {
         0 => random.bytes(length),
         1 => vec![0; length],
@@ -195,13 +195,16 @@ fn lengths(tally: &mut Tally, random: &mut Random, cases: usize) -> Compared {
     Ok(())
 }
 
+/// Each kind of damage to panels of a right length. At times one leaves a panel good.
+pub const KINDS: [fn(u32, &mut Random) -> Vec<u8>; 6] =
+    [flipped, other_leaf_bits, other_pins, other_depth_word, stray_sum, random_bytes];
+
 pub fn all(tally: &mut Tally, random: &mut Random, cases: usize) -> Compared {
     single_bits(tally, random, cases)?;
     pin_bytes(tally, random)?;
     lengths(tally, random, cases)?;
-    let kinds = [flipped, other_leaf_bits, other_pins, other_depth_word, stray_sum, random_bytes];
     for depth in LEAST_DEPTH..=GREATEST_DEPTH {
-        for kind in kinds {
+        for kind in KINDS {
             for _ in 0..bounded(cases, depth) {
                 let bytes = kind(depth, random);
                 try_some(tally, random, &bytes)?;

@@ -1,6 +1,6 @@
 //! The values of document 01's section "Known panels" that it does not mark `[M]`, in its order, the limits of request W5, what
-//! request W4 says on 01's panels of depth 3, the lengths and pins of W7, and the corners that 01 and W6 give. Each is asked of the
-//! second program and of the exported calls, and both must answer what stands here: the two agreeing is not enough.
+//! request W4 says on 01's panels of depth 3, the lengths and pins of W7, the rounds of W1, and the corners that 01 and W6 give. Each is
+//! asked of the second program and of the exported calls, and both must answer what stands here: the two agreeing is not enough.
 
 use std::collections::BTreeSet;
 
@@ -48,6 +48,10 @@ type Leaves = (&'static [u32], &'static [u32]);
 
 /// What is said; a depth, and a panel of it; the calls, and what they answer; the panel that each leaves.
 type Pins = (&'static str, u32, Leaves, &'static [Call], Told, Leaves);
+
+/// What is said; a panel, and records and what is left over behind them; the round's answer; the panel and the answers that it leaves. Each
+/// answer byte holds EE before.
+type Round = (&'static str, &'static [u8], &'static [&'static [u8]], u32, &'static [u8], &'static [u8]);
 
 // Panels of depth 3, by the bytes that 01 gives, with no pin: leaves 2, 3; leaves 4, 5, 6, 7; leaves 8, 9, 5, 6, 7; all cut.
 const FRESH: &[u8] = &[0x8C, 0x24, 0x11, 0x11, 0x00];
@@ -168,6 +172,65 @@ const PINS: &[Pins] = &[
     (ELEVEN, 4, (EIGHT_LEAVES, &[31]), &[Merge(16), Merge(30)], (11, [0, 0]), (EIGHT_LEAVES, &[31])),
     (ELEVEN, 3, (FIVE_LEAVES, FIVE_LEAVES), &[Merge(5), Merge(6)], (7, [0, 0]), (FIVE_LEAVES, FIVE_LEAVES)),
     (ELEVEN, 3, (TWO_LEAVES, TWO_LEAVES), &[Merge(2)], (6, [0, 0]), (TWO_LEAVES, TWO_LEAVES)),
+];
+
+const IN_ORDER: &str = "bytes and answers equal those of the single calls in order";
+const NO_ANCESTOR: &str = "rounds and the program give no ancestor";
+const NINE: &str = "an open, a kind above 2 or a spare byte not zero is 9 for that record";
+const PAST: &str = "bytes past the last answer stay";
+const SIXTEEN: &str = "fewer answer bytes than whole records (16, tested after 1 and 2): nothing is written";
+const SEVENTEEN: &str = "bytes left over (17, tested last): nothing is written";
+const BAD_PANEL: &str = "a bad panel: nothing is written";
+
+// The leaves 4, 5, 6, 7 and 8, 9, 5, 6, 7, with 5 pinned.
+const FOUR_PINNED: &[u8] = &[0x0C, 0x49, 0x55, 0x55, 0x04];
+const FIVE_PINNED: &[u8] = &[0x4C, 0x4D, 0x56, 0x57, 0x04];
+
+const SPLIT_2: &[u8] = &[1, 0, 0, 0, 2, 0, 0, 0];
+const SPLIT_4: &[u8] = &[1, 0, 0, 0, 4, 0, 0, 0];
+const SPLIT_8: &[u8] = &[1, 0, 0, 0, 8, 0, 0, 0];
+const MERGE_4: &[u8] = &[2, 0, 0, 0, 4, 0, 0, 0];
+const MERGE_5: &[u8] = &[2, 0, 0, 0, 5, 0, 0, 0];
+const MERGE_9: &[u8] = &[2, 0, 0, 0, 9, 0, 0, 0];
+
+/// Records that are bad in a round: an open, a pin, an unpin, kinds above; a split and a merge with a spare byte not zero.
+const BAD_RECORDS: &[&[u8]] = &[
+    &[0, 0, 0, 0, 3, 0, 0, 0],
+    &[3, 0, 0, 0, 2, 0, 0, 0],
+    &[4, 0, 0, 0, 2, 0, 0, 0],
+    &[5, 0, 0, 0, 2, 0, 0, 0],
+    &[0xFF, 0, 0, 0, 2, 0, 0, 0],
+    &[1, 1, 0, 0, 2, 0, 0, 0],
+    &[1, 0, 0x80, 0, 2, 0, 0, 0],
+    &[2, 0, 0, 0xFF, 2, 0, 0, 0],
+];
+
+/// What W1 says of rounds, with W4 and W7, on 01's panels of depth 3.
+const ROUNDS: &[Round] = &[
+    (NO_ANCESTOR, FRESH, &[SPLIT_2, SPLIT_8, SPLIT_4], 0, FIVE, &[0, 10, 0]),
+    (IN_ORDER, FRESH, &[MERGE_4, SPLIT_2, SPLIT_2, SPLIT_4], 0, FIVE, &[10, 0, 4, 0]),
+    (IN_ORDER, FIVE, &[SPLIT_8, MERGE_5, MERGE_9, MERGE_5], 0, FRESH, &[5, 7, 0, 0]),
+    (IN_ORDER, FRESH, &[&[2, 0, 0, 0, 2, 0, 0, 0], &[1, 0, 0, 0, 16, 0, 0, 0]], 0, FRESH, &[6, 3]),
+    (IN_ORDER, FRESH, &[&[1, 0, 0, 0, 2, 1, 0, 0], &[1, 0, 0, 0, 2, 0, 0, 1]], 0, FRESH, &[3, 3]),
+    (ELEVEN, FOUR_PINNED, &[MERGE_4, MERGE_5, SPLIT_4], 0, FIVE_PINNED, &[11, 11, 0]),
+    (NINE, FRESH, BAD_RECORDS, 0, FRESH, &[9; 8]),
+    (NINE, FRESH, &[BAD_RECORDS[0], SPLIT_2, BAD_RECORDS[1], SPLIT_4], 0, FIVE, &[9, 0, 9, 0]),
+    (PAST, FRESH, &[SPLIT_2], 0, FOUR, &[0, 0xEE, 0xEE]),
+    (PAST, FIVE, &[], 0, FIVE, &[0xEE]),
+    (PAST, FIVE, &[], 0, FIVE, &[]),
+    (SIXTEEN, FRESH, &[SPLIT_2, SPLIT_4], 16, FRESH, &[0xEE]),
+    (SIXTEEN, FRESH, &[SPLIT_2], 16, FRESH, &[]),
+    (SIXTEEN, FRESH, &[SPLIT_2, SPLIT_4, &[1]], 16, FRESH, &[0xEE]),
+    (SEVENTEEN, FRESH, &[SPLIT_2, SPLIT_4, &[1]], 17, FRESH, &[0xEE, 0xEE]),
+    (SEVENTEEN, FRESH, &[SPLIT_2, &[1, 0, 0, 0, 4, 0, 0]], 17, FRESH, &[0xEE, 0xEE]),
+    (SEVENTEEN, FRESH, &[&[1, 0, 0, 0]], 17, FRESH, &[]),
+    (BAD_PANEL, BITS, &[SPLIT_2], 2, BITS, &[0xEE]),
+    (BAD_PANEL, LEAF_BITS, &[SPLIT_2, SPLIT_4], 2, LEAF_BITS, &[0xEE]),
+    (BAD_PANEL, LEAF_BITS, &[SPLIT_2, &[1]], 2, LEAF_BITS, &[0xEE]),
+    (BAD_PANEL, LEAF_BITS, &[], 2, LEAF_BITS, &[]),
+    (BAD_PANEL, &[0x8C, 0x24, 0x11, 0x11], &[SPLIT_2], 1, &[0x8C, 0x24, 0x11, 0x11], &[0xEE]),
+    (BAD_PANEL, &[0x8C, 0x24, 0x11, 0x11], &[SPLIT_2, &[1]], 1, &[0x8C, 0x24, 0x11, 0x11], &[]),
+    (BAD_PANEL, &[], &[], 1, &[], &[]),
 ];
 
 /// What 01 and W6 say of corners.
@@ -317,6 +380,33 @@ fn pins(tally: &mut Tally) -> Compared {
     Ok(())
 }
 
+/// Both sides answer what is known of a round, and leave the known panel and answers.
+fn rounds(tally: &mut Tally) -> Compared {
+    type Ask = fn(&mut [u8], &[u8], &mut [u8]) -> u32;
+    let sides: [(&str, Ask); 2] = [("second", calls::round), ("exports", exports::round)];
+    for (says, panel, records, answer, after, answers) in ROUNDS {
+        let records = records.concat();
+        for (side, ask) in sides {
+            let (mut lent, mut written) = (panel.to_vec(), vec![0xEE; answers.len()]);
+            let told = ask(&mut lent, &records, &mut written);
+            if (told, &lent[..], &written[..]) != (*answer, after, answers) {
+                let line = |answer, panel, answers| {
+                    format!("answer {answer}, panel {}, answers {}", hex(panel), hex(answers))
+                };
+                return Err(Difference(format!(
+                    "02 says: {says}\n  asked: a round, panel {}, records {}\n  {side}: {}\n  known: {}",
+                    hex(panel),
+                    hex(&records),
+                    line(told, &lent, &written),
+                    line(*answer, after, answers)
+                )));
+            }
+        }
+        tally.known();
+    }
+    Ok(())
+}
+
 fn corners(tally: &mut Tally) -> Compared {
     for (says, node, known) in CORNERS {
         for (side, told) in [("second", calls::corners(*node)), ("exports", exports::corners(*node, JUNK))] {
@@ -344,5 +434,6 @@ pub fn all(tally: &mut Tally) -> Compared {
     depths(tally)?;
     pins(tally)?;
     last_pins(tally)?;
+    rounds(tally)?;
     corners(tally)
 }

@@ -3,10 +3,10 @@
 //!
 //!     compare [--seed NUMBER] [--cases NUMBER]
 //!
-//! The same seed and number give the same cases. It prints how many cases it compared, by call and answer, how often a call told an
-//! ancestor, by how far above the node that is, how often one pin alone refused a merge, by the leaf that it is on, how many panels by
-//! depth, and how many known values. Exit status: 0 no difference, and every answer of every call, every ancestor's distance and a pin on
-//! each such leaf was seen; 1 otherwise; 2 wrong arguments.
+//! The same seed and number give the same cases. It prints how many cases it compared, by call and answer, how many records of rounds
+//! that were done, by answer, how often a call told an ancestor, by how far above the node that is, how often one pin alone refused a
+//! merge, by the leaf that it is on, how many panels by depth, and how many known values. Exit status: 0 no difference, and every answer
+//! of every call and of a round's records, every ancestor's distance and a pin on each such leaf was seen; 1 otherwise; 2 wrong arguments.
 
 mod damage;
 mod fields;
@@ -14,6 +14,7 @@ mod frame;
 mod known;
 mod nodes;
 mod random;
+mod rounds;
 mod runs;
 mod scanner;
 mod subject;
@@ -24,7 +25,7 @@ use std::process::ExitCode;
 use random::Random;
 use tally::{Compared, Difference, Tally};
 
-/// The calls that are compared, and the answers that document 01 and requests W4 and W7 give each, in the order of testing.
+/// The calls that are compared, and the answers that document 01 and requests W1, W4 and W7 give each, in the order of testing.
 pub const CALLS: &[(&str, &[u32])] = &[
     ("node_neighbours", &[0, 3]),
     ("node_corners", &[0, 3]),
@@ -39,6 +40,9 @@ pub const CALLS: &[(&str, &[u32])] = &[
     ("panel_pin", &[0, 1, 2, 3, 4, 10]),
     ("panel_unpin", &[0, 1, 2, 3, 4, 10]),
     ("panel_pinned", &[0, 1, 2, 3, 4, 10]),
+    ("panel_round", &[0, 1, 2, 16, 17]),
+    // those of a round that is done
+    ("round records", &[0, 9, 3, 4, 10, 5, 6, 7, 11]),
     // a run's panel is always good, and no request takes a leaf number
     ("scanner", &[0, 9, 1, 18, 3, 4, 10, 5, 6, 7, 11]),
 ];
@@ -75,6 +79,7 @@ fn compare(tally: &mut Tally, random: &mut Random, cases: usize) -> Compared {
     fields::all(tally, random)?;
     runs::all(tally, random, cases)?;
     damage::all(tally, random, cases)?;
+    rounds::all(tally, random, cases)?;
     scanner::all(tally, random, cases)
 }
 

@@ -34,22 +34,20 @@ pub fn random_panel(panel_depth: u32, random: &mut Random) -> Panel {
     with_pins(Panel::holding(panel_depth, &cuts), random)
 }
 
-fn all_cut(depth: u32, random: &mut Random) -> Panel {
+pub fn all_cut(depth: u32, random: &mut Random) -> Panel {
     with_pins(Panel::holding(depth, &(1..1 << depth).collect()), random)
 }
 
-/// A node to change: mostly a leaf, often one of the deepest, at times one above a leaf or below it or any number.
-fn node(panel: &Panel, random: &mut Random) -> u32 {
-    let leaf = random.pick(panel.leaves());
-    let other = random.pick(panel.leaves());
+/// A node to change, by two leaves: mostly a leaf, often the deeper one, at times one above a leaf or below it or any number.
+pub fn node(panel_depth: u32, [leaf, other]: [u32; 2], random: &mut Random) -> u32 {
     match random.below(16) {
         0 => leaf / 2,
         1 => 2 * leaf,
         2 => {
-            let way = way_through(leaf, panel.depth(), random);
+            let way = way_through(leaf, panel_depth, random);
             random.pick(&way)
         }
-        3 => random.below((2 << panel.depth()) + 3) as u32,
+        3 => random.below((2 << panel_depth) + 3) as u32,
         4 => random.next() as u32,
         5..=7 => {
             if depth(leaf) < depth(other) {
@@ -65,7 +63,8 @@ fn node(panel: &Panel, random: &mut Random) -> u32 {
 /// What to do to a panel, and where: mostly to split as it is to grow, and else to merge; at times to pin, and as often to unpin, mostly
 /// what is pinned.
 pub fn change(panel: &Panel, grow: bool, random: &mut Random) -> (Change, u32) {
-    let node = node(panel, random);
+    let leaves = [(); 2].map(|()| random.pick(panel.leaves()));
+    let node = node(panel.depth(), leaves, random);
     match random.below(8) {
         0 => (PIN, node),
         1 if panel.pinned().is_empty() || random.once_in(4) => (UNPIN, node),
