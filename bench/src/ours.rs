@@ -59,6 +59,19 @@ pub fn merge(panel: &mut [u8], deep: u32, node: u32) -> u32 {
     unsafe { raw::measure_merge(panel.as_mut_ptr(), panel.len(), deep as usize, node) }
 }
 
+/// The exported call, which judges the panel first; so does the next.
+pub fn call_split(panel: &mut [u8], node: u32) -> u32 {
+    exports::split(panel, node, 0).0
+}
+
+pub fn call_merge(panel: &mut [u8], node: u32) -> u32 {
+    exports::merge(panel, node, 0).0
+}
+
+pub fn round(panel: &mut [u8], records: &[u8], answers: &mut [u8]) -> u32 {
+    exports::round(panel, records, answers)
+}
+
 pub fn neighbours(node: u32) -> [u32; 3] {
     exports::neighbours(node, 0).1
 }

@@ -1,11 +1,12 @@
-//! Request files to run the scanner on: an open, then splits and merges that are all allowed.
+//! Request files to run the scanner on, an open and then splits and merges that are all allowed; and such records for a round, without an
+//! open.
 
 use std::path::{Path, PathBuf};
 
 use bench::panels::{depth, Kind, Panel, Random, DEEPEST_OPENED};
 use bench::{ordinary, ours};
 
-/// As many records as the scanner reads at most.
+/// As many records as the scanner reads at most. A round is measured on as many.
 pub const MOST: usize = 4096;
 /// The depth of the file that leaves the most leaves.
 const NEARLY_FULL: u32 = 14;
@@ -20,9 +21,21 @@ pub struct Requests {
     bytes: Vec<u8>,
 }
 
+/// A split of a leaf, or else a merge.
+#[derive(Clone, Copy)]
+pub struct Change {
+    pub split: bool,
+    pub leaf: u32,
+}
+
 impl Requests {
+    /// No record, on a fresh panel.
+    fn none(deep: u32) -> Requests {
+        Requests { panel: Panel::new(deep, Kind::Fresh), bytes: Vec::new() }
+    }
+
     fn open(deep: u32) -> Requests {
-        let mut requests = Requests { panel: Panel::new(deep, Kind::Fresh), bytes: Vec::new() };
+        let mut requests = Requests::none(deep);
         requests.record(OPEN, deep);
         requests
     }
@@ -41,8 +54,37 @@ impl Requests {
         }
     }
 
+    /// Fills up with leaves that look random, five splits to a merge. Where all leaves are at depth D only merges are allowed, and then
+    /// splits again, so that it comes to an end at every depth.
+    fn ask_random(&mut self) {
+        let mut random = Random(5);
+        while self.count() < MOST {
+            let number = random.below(self.leaves() as usize) as u32;
+            let leaf = ours::leaf(self.panel.lent(), self.panel.deep, number);
+            self.ask(if random.below(6) == 0 { MERGE } else { SPLIT }, leaf);
+        }
+    }
+
     pub fn count(&self) -> usize {
         self.bytes.len() / 8
+    }
+
+    pub fn bytes(&self) -> &[u8] {
+        &self.bytes
+    }
+
+    /// What the records ask for, where no open is among them.
+    pub fn changes(&self) -> Vec<Change> {
+        let change = |record: &[u8]| {
+            let leaf = u32::from_le_bytes([record[4], record[5], record[6], record[7]]);
+            Change { split: record[0] == SPLIT, leaf }
+        };
+        self.bytes.chunks_exact(8).map(change).collect()
+    }
+
+    /// The panel that they leave.
+    pub fn panel(&self) -> &Panel {
+        &self.panel
     }
 
     pub fn leaves(&self) -> u32 {
@@ -65,12 +107,14 @@ impl Requests {
 /// Leaves that look random, five splits to a merge.
 pub fn random(deep: u32) -> Requests {
     let mut requests = Requests::open(deep);
-    let mut random = Random(5);
-    while requests.count() < MOST {
-        let number = random.below(requests.leaves() as usize) as u32;
-        let leaf = ours::leaf(requests.panel.lent(), deep, number);
-        requests.ask(if random.below(6) == 0 { MERGE } else { SPLIT }, leaf);
-    }
+    requests.ask_random();
+    requests
+}
+
+/// The same for a round: no open, and a split or a merge more.
+pub fn round(deep: u32) -> Requests {
+    let mut requests = Requests::none(deep);
+    requests.ask_random();
     requests
 }
 

@@ -1,4 +1,4 @@
-//! The shortest of many repetitions, the two sides in turn.
+//! The shortest of many repetitions, the sides in turn.
 
 use std::hint::black_box;
 use std::time::{Duration, Instant};
@@ -48,4 +48,27 @@ pub fn least<S>(
         runs += 1;
     }
     Times { ours: best.ours / calls as f64, ordinary: best.ordinary / calls as f64 }
+}
+
+/// Nanoseconds of each side, the shortest of its runs: all in turn, so often at least and for so long, each time from the state that
+/// `setup` makes. `check` sees what a side has left.
+pub fn shortest<S, const N: usize>(
+    state: &mut S,
+    (turns, long): (usize, Duration),
+    setup: impl Fn(&mut S),
+    sides: [&dyn Fn(&mut S); N],
+    check: impl Fn(&S),
+) -> [f64; N] {
+    let mut best = [f64::MAX; N];
+    let end = Instant::now() + long;
+    let mut turn = 0;
+    while turn < turns || Instant::now() < end {
+        for (best, side) in best.iter_mut().zip(sides) {
+            setup(state);
+            *best = best.min(timed(|| side(state)));
+            check(state);
+        }
+        turn += 1;
+    }
+    best
 }
