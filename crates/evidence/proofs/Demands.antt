@@ -45,9 +45,10 @@ use Rattle.steps.specs.Holding.{Holds}
 use Rattle.steps.proofs.Exactness.{nine-exactly, in-use-exactly}
 use Rattle.steps.proofs.Keeping.{step-refused}
 use Rattle.steps.proofs.Once.{step-one}
-use Rattle.turns.specs.Turns.{Runs}
-use Rattle.rounds.specs.Rounds.{Turn, Lent, roundRows, Round}
-use Rattle.rounds.proofs.Once.{turn-one, turn-nine, turn-refused, round-one}
+use Rattle.turns.specs.Runs.{Runs}
+use Rattle.rounds.specs.Rounds.{Single, Lent, roundRows, Round}
+use Rattle.rounds.proofs.Once.{single-one, single-nine, single-refused, single-judged, round-one}
+use Rattle.rounds.proofs.SingleCalls.{single-good}
 use Rattle.requests.specs.Requests.{Part, Run, Parts, Ended}
 use Rattle.requests.proofs.Keeping.{run-holds, ended-holds, NoneDone}
 use Rattle.requests.proofs.Once.{part-one, run-one}
@@ -111,11 +112,13 @@ pub record Demand1 : Type 0 where
   pub ancestor : (s : List ℕ) (k n a b : ℕ) → Ancestor s k n a → Ancestor s k n b → a ≡ b
   pub neighbours : (n : ℕ) → Settled (nodeRows n) Triple (Any Triple) none (Neighbours n)
   pub corners : (n : ℕ) → Settled (nodeRows n) Triangle (Any Triangle) noCorners (Corners n)
-  -- a round; and one record of it: 9 exactly where it is no fine split or merge, and else its call's answer; a refused one changes nothing
+  -- a round; and one record of it: 9 exactly where it is no fine split or merge, and else its call's answer; a refused one changes nothing, and after
+  -- each the panel is good, so that none answers 1 or 2
   pub round : (s rs out : List ℕ) → Settled (roundRows s rs out) Lent (Any Lent) (record { panel = s; answers = out }) (Round s rs out)
-  pub turn : {r s t u : List ℕ} {n m : ℕ} → Bytes t → Bytes u → Turn r s n t → Turn r s m u → (n ≡ m) × (t ≡ u)
-  pub turn-bad : {r s t : List ℕ} {n : ℕ} → Turn r s n t → (n ≡ 9) ↔ (Fine 1 2 r → ⊥)
-  pub turn-keeps : {r s t : List ℕ} {n : ℕ} → Turn r s n t → n ≢ 0 → t ≡ s
+  pub single : {r s t u : List ℕ} {n m : ℕ} → Bytes t → Bytes u → Single r s n t → Single r s m u → (n ≡ m) × (t ≡ u)
+  pub single-bad : {r s t : List ℕ} {n : ℕ} → Single r s n t → (n ≡ 9) ↔ (Fine 1 2 r → ⊥)
+  pub single-keeps : {r s t : List ℕ} {n : ℕ} → Single r s n t → n ≢ 0 → t ≡ s
+  pub single-good : {r s t : List ℕ} {n : ℕ} → Good s → Single r s n t → Good t × (n ≢ 1) × (n ≢ 2)
   -- one record of a request file: 9 exactly where it is bad, 18 exactly where it asks for an open that fits, over more than two leaves, and else its call's
   -- answer; a refused one; a part of the input, and a run of records
   pub step : {r b u v : List ℕ} {D n m E F : ℕ} → Bytes u → Bytes v → Step 0 4 r D b n E u → Step 0 4 r D b m F v → (n ≡ m) × (E ≡ F) × (u ≡ v)
@@ -171,9 +174,10 @@ demand-1 = record {
   neighbours = λ n. settled _ _ _ _ _ (omega arith) (λ a b x y _ _. neighbours-one n a b x y);
   corners = λ n. settled _ _ _ _ _ (omega arith) (λ a b x y _ _. corners-one n a b x y);
   round = λ s rs out. settled _ _ _ _ _ (omega arith) (λ n m x y _ _. round-one s rs out n m x y);
-  turn = turn-one;
-  turn-bad = turn-nine;
-  turn-keeps = turn-refused;
+  single = single-one;
+  single-bad = single-nine;
+  single-keeps = single-refused;
+  single-good = λ g o. (single-good g o .0, single-judged g o .0, single-judged g o .1);
   step = step-one;
   step-bad = nine-exactly;
   step-in-use = in-use-exactly;

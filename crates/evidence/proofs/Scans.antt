@@ -13,16 +13,16 @@ use Rattle.panel.specs.Calls.{Open, Split, PinPut}
 use Rattle.panel.proofs.Pinning.{pinned-count, put-leaf}
 use Rattle.panel.proofs.GoodPanels.{two-leaves, fresh-count}
 use Rattle.records.specs.Records.{kind, Fine, recordAt}
-use Rattle.records.specs.Turns.{InTurn}
-use Rattle.records.specs.Turns.InTurn.{none, more}
+use Rattle.records.specs.InTurn.{InTurn}
+use Rattle.records.specs.InTurn.InTurn.{none, more}
 use Rattle.steps.specs.Steps.{panelIn, changed, leavesIn, Called, Step}
 use Rattle.steps.specs.Steps.Called.{opened, refused, in-use, split, merge, pin, unpin}
 use Rattle.steps.specs.Steps.Step.{bad, call}
 use Rattle.steps.specs.Holding.{Holds}
 use Rattle.steps.proofs.Keeping.{holds-none}
 use Rattle.steps.proofs.Parts.{same-changed, held-length, leaves-none, leaves-open, leaves-changed}
-use Rattle.turns.specs.Turns.{Stepped, Runs}
-use Rattle.turns.proofs.Runs.{runs-holds}
+use Rattle.turns.specs.Runs.{Stepped, Runs}
+use Rattle.turns.proofs.Running.{runs-holds}
 use Rattle.requests.proofs.Keeping.{NoneDone, before-none, last-none}
 use Rattle.evidence.proofs.Sequences.{split-grows}
 

@@ -9,11 +9,11 @@ use lib.Seq.{getD-append-seam}
 use Rattle.records.specs.Records.{kind, recordAt, Fine}
 use Rattle.steps.specs.Steps.{Step}
 use Rattle.steps.specs.Holding.{Holds}
-use Rattle.records.specs.Turns.{InTurn}
-use Rattle.records.specs.Turns.InTurn.{none, more}
+use Rattle.records.specs.InTurn.{InTurn}
+use Rattle.records.specs.InTurn.InTurn.{none, more}
 use Rattle.steps.proofs.Keeping.{step-refused, holds-none, step-none, step-first}
-use Rattle.turns.specs.Turns.{Stepped, Runs}
-use Rattle.turns.proofs.Runs.{runs-holds}
+use Rattle.turns.specs.Runs.{Stepped, Runs}
+use Rattle.turns.proofs.Running.{runs-holds}
 use Rattle.requests.specs.Requests.{Run, Ended}
 
 -- ---- the open panel stays good

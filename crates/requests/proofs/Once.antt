@@ -7,7 +7,7 @@ use native.Mathlib.Omega.{arith}
 use lib.ListN.{length, take, drop, take-append-drop}
 use lib.Seq.{slice, length-slice, take-take}
 use Rattle.records.specs.Records.{mostRecords}
-use Rattle.turns.proofs.Runs.{runs-one}
+use Rattle.turns.proofs.Running.{runs-one}
 use Rattle.requests.specs.Requests.{Part, Run}
 
 -- a list is its first bytes, those from there on up to another place, and the rest

@@ -7,12 +7,12 @@ use native.Mathlib.Omega.{arith}
 use lib.ListN.{length, take, drop, length-append, take-append-drop}
 use lib.Seq.{slice, length-slice, length-take-le, take-take, drop-drop}
 use Rattle.records.specs.Records.{recordAt, recordsIn, mostRecords}
-use Rattle.records.specs.Turns.InTurn.{none}
-use Rattle.records.proofs.Turns.{record-behind, turns-longer, turns-then}
+use Rattle.records.specs.InTurn.InTurn.{none}
+use Rattle.records.proofs.InTurn.{record-behind, turns-longer, turns-then}
 use Rattle.steps.specs.Holding.{Holds}
 use Rattle.steps.proofs.Keeping.{holds-none}
-use Rattle.turns.specs.Turns.{Runs}
-use Rattle.turns.proofs.Runs.{runs-holds}
+use Rattle.turns.specs.Runs.{Runs}
+use Rattle.turns.proofs.Running.{runs-holds}
 use Rattle.requests.specs.Requests.{Part, Run, Parts, Ended}
 use Rattle.requests.specs.Requests.Parts.{none as no-parts, more as one-more}
 use Rattle.requests.proofs.Once.{run-one}

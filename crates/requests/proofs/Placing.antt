@@ -8,7 +8,7 @@ use lib.ListN.{length, take, drop, length-append, length-drop}
 use lib.Seq.{slice, length-take-le, take-at, drop-at, drop-drop}
 use Rattle.records.specs.Records.{countAfter, mostRecords}
 use Rattle.records.proofs.Tails.{in-room}
-use Rattle.turns.specs.Turns.{Runs}
+use Rattle.turns.specs.Runs.{Runs}
 use Rattle.requests.specs.Requests.{Part}
 
 module _ (p : List ℕ) (ends : Bool) (before : ℕ) (out : List ℕ) (count : ℕ) (h : before ≤ min mostRecords (length out)) (a : count ≡ min (countAfter before ends p) (length out)) where

@@ -7,7 +7,7 @@ use Prim.Native.Nat.{ℕ, _%_, min}
 use lib.ListN.{length, take, drop}
 use lib.Seq.{slice}
 use Rattle.records.specs.Records.{countAfter}
-use Rattle.turns.specs.Turns.{Runs}
+use Rattle.turns.specs.Runs.{Runs}
 
 -- one part p of the input, which ends with it or goes on: `before` records are answered before it, in the answers' buffer out, and the panel of depth C is
 -- open. After it `count` are: every record of the part, up to the limit, or as many as the answers' buffer has room for. Its bytes in front of the

@@ -1,3 +1,3 @@
 pub mod Making
 pub mod Once
-pub mod Turning
+pub mod SingleCalls

@@ -8,9 +8,9 @@ use lib.ListN.{length, take, drop}
 use lib.Seq.{length-front, length-take-le, take-at, drop-at}
 use Rattle.tables.proofs.Tables.{is-done, is-refused}
 use Rattle.panel.specs.Panels.{deepOf, Good}
-use Rattle.turns.specs.Turns.{Runs}
-use Rattle.rounds.specs.Rounds.{Turns, Round}
-use Rattle.rounds.proofs.Turning.{runs-turns}
+use Rattle.turns.specs.Runs.{Runs}
+use Rattle.rounds.specs.Rounds.{InOrder, Round}
+use Rattle.rounds.proofs.SingleCalls.{runs-in-order}
 
 module _ {s rs out : List ℕ} (g : Good s) where
   pub no-room : length out < length rs / 8 → Round s rs out 16 (record { panel = s; answers = out })
@@ -26,7 +26,7 @@ module _ {s rs out : List ℕ} (g : Good s) where
       let n : ℕ = length rs / 8 in
       let l : length ys ≡ n = e ∙ length-take-le n out a in
       is-done (inr (g .fits, inr (g, inr (a, inr (b, refl))))) (record {
-        turns = subst⁻¹ (λ x. Turns rs s x t) (take-at ys (drop n out) n l) (runs-turns g d r);
+        in-order = subst⁻¹ (λ x. InOrder rs s x t) (take-at ys (drop n out) n l) (runs-in-order g d r .1);
         long = length-front out ys n e;
         rest = drop-at ys (drop n out) n l;
       })

@@ -7,26 +7,26 @@ use Rattle.bits.specs.Bits.{Bytes}
 use Rattle.tables.specs.Table.{Row, unless, Outcome}
 use Rattle.panel.specs.Calls.{panelRows, Split, Merge}
 use Rattle.records.specs.Records.{kind, number, Fine}
-use Rattle.records.specs.Turns.{InTurn}
+use Rattle.records.specs.InTurn.{InTurn}
 
--- record r answers n on panel s and leaves t, as the single call does; whatever is no split and no merge is a bad record
-pub data Turn (r s : List ℕ) : ℕ → List ℕ → Type 0 where
-  bad : (Fine 1 2 r → ⊥) → Turn r s 9 s
-  split : {n : ℕ} {t : List ℕ} → Fine 1 2 r → kind r ≡ 1 → Split s (number r) n t → Turn r s n t
-  merge : {n : ℕ} {t : List ℕ} → Fine 1 2 r → kind r ≡ 2 → Merge s (number r) n t → Turn r s n t
+-- the single call that record r asks for answers n on panel s and leaves t: a split or a merge, and 9 where it is neither or a spare byte is not zero
+pub data Single (r s : List ℕ) : ℕ → List ℕ → Type 0 where
+  bad : (Fine 1 2 r → ⊥) → Single r s 9 s
+  split : {n : ℕ} {t : List ℕ} → Fine 1 2 r → kind r ≡ 1 → Split s (number r) n t → Single r s n t
+  merge : {n : ℕ} {t : List ℕ} → Fine 1 2 r → kind r ≡ 2 → Merge s (number r) n t → Single r s n t
 
--- the first records in turn: their answers, and the panel after them, which holds bytes after each
-abbrev pub Turns : List ℕ → List ℕ → List ℕ → List ℕ → Type 0
-Turns rs s given t = InTurn (List ℕ) (λ r x n y. Turn r x n y × Bytes y) rs s given t
+-- the single calls in order, for the first records: their answers, and the panel after them, which holds bytes after each
+abbrev pub InOrder : List ℕ → List ℕ → List ℕ → List ℕ → Type 0
+InOrder rs s given t = InTurn (List ℕ) (λ r x n y. Single r x n y × Bytes y) rs s given t
 
 -- what a round is lent to write
 pub record Lent : Type 0 where
   pub panel : List ℕ
   pub answers : List ℕ
 
--- each whole record has its answer byte, and the bytes past the last answer stay
+-- panel and answers, a byte for each record, are those of the single calls in order; the bytes past the last answer stay
 pub record RoundAt (s rs out : List ℕ) (x : Lent) : Type 0 where
-  pub turns : Turns rs s (take (length rs / 8) (x .answers)) (x .panel)
+  pub in-order : InOrder rs s (take (length rs / 8) (x .answers)) (x .panel)
   pub long : length (x .answers) ≡ length out
   pub rest : drop (length rs / 8) (x .answers) ≡ drop (length rs / 8) out
 

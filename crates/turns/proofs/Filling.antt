@@ -9,9 +9,9 @@ use lib.ListN.{length, take, set, length-set}
 use lib.Seq.{take-suc-set, take-length, length-take-le}
 use Rattle.bits.specs.Bits.{Bytes}
 use Rattle.records.specs.Records.{recordAt}
-use Rattle.records.specs.Turns.InTurn.{none, more}
+use Rattle.records.specs.InTurn.InTurn.{none, more}
 use Rattle.steps.specs.Steps.{Step}
-use Rattle.turns.specs.Turns.{Runs}
+use Rattle.turns.specs.Runs.{Runs}
 
 -- before the i-th record the depth is D, the buffer u and the answers `given`
 pub record Filled (first last : ℕ) (rs : List ℕ) (C : ℕ) (b out : List ℕ) (u given : List ℕ) (D i : ℕ) : Type 0 where

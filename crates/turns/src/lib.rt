@@ -4,7 +4,7 @@ use steps::step;
 ghost use Prim.Native.Nat.{_+_, _*_, _≤_};
 ghost use lib.ListN.{length};
 ghost use Rattle.steps.specs.Holding.{Holds};
-ghost use Rattle.turns.specs.Turns.{Runs};
+ghost use Rattle.turns.specs.Runs.{Runs};
 
 // Works through as many records as there are answers to write, in turn, those of the kinds from `first` to `last`. `before` is the depth of the
 // panel that is open at the buffer's start before them, or 0 where none is, and what is handed back the depth of the one after them.

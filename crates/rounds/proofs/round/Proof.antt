@@ -7,7 +7,7 @@ use lib.Seq.{length-take-le}
 use borrow.Author.Needs.{needs}
 use Rattle.panel.specs.Panels.{deepOf, Good}
 use Rattle.panel.proofs.Judgements.{judged-no, judged-good}
-use Rattle.rounds.proofs.Turning.{good-holds}
+use Rattle.rounds.proofs.SingleCalls.{good-holds}
 use Rattle.rounds.proofs.Making.{no-room, bytes-left, round-done}
 use Rattle.rounds.proofs.round.Statement.{statement}
 use Rattle.rounds.proofs.round.Tie as tie

@@ -6,7 +6,7 @@ use lib.ListN.{length}
 use borrow.Author.Needs.{needs}
 use Rattle.answers.proofs.Refusing.{answer-byte}
 use Rattle.turns.proofs.Filling.{Filled, filled-none, filled-more, filled-all}
-use Rattle.turns.proofs.Runs.{runs-holds}
+use Rattle.turns.proofs.Running.{runs-holds}
 use Rattle.turns.proofs.in_turn.Statement.{statement}
 use Rattle.turns.proofs.in_turn.Tie as tie
 

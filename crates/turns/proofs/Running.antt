@@ -3,12 +3,12 @@ use mathlib.Core.Path.{_≡_, ap, ap₂}
 use mathlib.Core.List.{List}
 use Prim.Native.Nat.{ℕ}
 use lib.ListN.{length}
-use Rattle.records.specs.Turns.{InTurn}
-use Rattle.records.proofs.Turns.{turns-keep, turns-one}
+use Rattle.records.specs.InTurn.{InTurn}
+use Rattle.records.proofs.InTurn.{turns-keep, turns-one}
 use Rattle.steps.specs.Holding.{Holds}
 use Rattle.steps.proofs.Keeping.{step-holds}
 use Rattle.steps.proofs.Once.{step-one}
-use Rattle.turns.specs.Turns.{Stepped, Runs}
+use Rattle.turns.specs.Runs.{Stepped, Runs}
 
 pub runs-one :
     {first last : ℕ} {rs b xs ys u v : List ℕ} {C D E : ℕ} → Runs first last rs C b xs D u → Runs first last rs C b ys E v → length xs ≡ length ys → (xs ≡ ys) × (D ≡ E) × (u ≡ v)

@@ -6,8 +6,8 @@ use native.Mathlib.Omega.{arith}
 use lib.ListN.{length, take, drop, length-append, length-drop}
 use lib.Seq.{take-append-le, drop-append-le, drop-append-add}
 use Rattle.records.specs.Records.{recordAt}
-use Rattle.records.specs.Turns.{InTurn}
-use Rattle.records.specs.Turns.InTurn.{none, more}
+use Rattle.records.specs.InTurn.{InTurn}
+use Rattle.records.specs.InTurn.InTurn.{none, more}
 
 -- ---- records of bytes put together
 

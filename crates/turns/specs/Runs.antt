@@ -2,7 +2,7 @@
 use mathlib.Core.List.{List}
 use Prim.Native.Nat.{ℕ}
 use Rattle.bits.specs.Bits.{Bytes}
-use Rattle.records.specs.Turns.{InTurn}
+use Rattle.records.specs.InTurn.{InTurn}
 use Rattle.steps.specs.Steps.{Step}
 
 -- what a record goes on from and leaves: the depth of the open panel, and the buffer, which holds bytes
