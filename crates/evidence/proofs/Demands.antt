@@ -46,9 +46,9 @@ use Rattle.steps.proofs.Exactness.{nine-exactly, in-use-exactly}
 use Rattle.steps.proofs.Keeping.{step-refused}
 use Rattle.steps.proofs.Once.{step-one}
 use Rattle.turns.specs.Runs.{Runs}
-use Rattle.rounds.specs.Rounds.{Single, Lent, roundRows, Round}
-use Rattle.rounds.proofs.Once.{single-one, single-nine, single-refused, single-judged, round-one}
-use Rattle.rounds.proofs.SingleCalls.{single-good}
+use Rattle.rounds.specs.Rounds.{Single, InOrder, Lent, roundRows, Round}
+use Rattle.rounds.proofs.Once.{single-one, single-nine, single-refused, single-judged, round-one, round-empty}
+use Rattle.rounds.proofs.SingleCalls.{single-good, in-order-then}
 use Rattle.requests.specs.Requests.{Part, Run, Parts, Ended}
 use Rattle.requests.proofs.Keeping.{run-holds, ended-holds, NoneDone}
 use Rattle.requests.proofs.Once.{part-one, run-one}
@@ -112,9 +112,12 @@ pub record Demand1 : Type 0 where
   pub ancestor : (s : List ℕ) (k n a b : ℕ) → Ancestor s k n a → Ancestor s k n b → a ≡ b
   pub neighbours : (n : ℕ) → Settled (nodeRows n) Triple (Any Triple) none (Neighbours n)
   pub corners : (n : ℕ) → Settled (nodeRows n) Triangle (Any Triangle) noCorners (Corners n)
-  -- a round; and one record of it: 9 exactly where it is no fine split or merge, and else its call's answer; a refused one changes nothing, and after
-  -- each the panel is good, so that none answers 1 or 2
+  -- a round; one with no record; records in two rounds come to what they come to in one
   pub round : (s rs out : List ℕ) → Settled (roundRows s rs out) Lent (Any Lent) (record { panel = s; answers = out }) (Round s rs out)
+  pub round-empty : {s out : List ℕ} {n : ℕ} {x : Lent} → Good s → Round s [] out n x → (n ≡ 0) × (x ≡ record { panel = s; answers = out })
+  pub rounds-then : {rs p s xs ys t u : List ℕ} → InOrder rs s xs t → 8 * length xs ≡ length rs → InOrder p t ys u → InOrder (rs ++ p) s (xs ++ ys) u
+  -- one record of a round: 9 exactly where it is no fine split or merge, and else its call's answer; a refused one changes nothing, and after each the
+  -- panel is good, so that none answers 1 or 2
   pub single : {r s t u : List ℕ} {n m : ℕ} → Bytes t → Bytes u → Single r s n t → Single r s m u → (n ≡ m) × (t ≡ u)
   pub single-bad : {r s t : List ℕ} {n : ℕ} → Single r s n t → (n ≡ 9) ↔ (Fine 1 2 r → ⊥)
   pub single-keeps : {r s t : List ℕ} {n : ℕ} → Single r s n t → n ≢ 0 → t ≡ s
@@ -174,6 +177,8 @@ demand-1 = record {
   neighbours = λ n. settled _ _ _ _ _ (omega arith) (λ a b x y _ _. neighbours-one n a b x y);
   corners = λ n. settled _ _ _ _ _ (omega arith) (λ a b x y _ _. corners-one n a b x y);
   round = λ s rs out. settled _ _ _ _ _ (omega arith) (λ n m x y _ _. round-one s rs out n m x y);
+  round-empty = round-empty;
+  rounds-then = in-order-then;
   single = single-one;
   single-bad = single-nine;
   single-keeps = single-refused;

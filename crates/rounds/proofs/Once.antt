@@ -4,17 +4,18 @@ use mathlib.Core.Logic.{_≢_, inl, inr, _↔_}
 use mathlib.Core.List.{List, [], _∷_, _++_}
 use Prim.Native.Nat.{ℕ, _/_, _<_, min}
 use native.Mathlib.Omega.{arith}
-use lib.ListN.{length, take, drop, length-take, take-append-drop}
+use lib.ListN.{length, take, length-take, take-append-drop}
 use Rattle.bits.specs.Bits.{Bytes}
 use Rattle.nodes.specs.Depth.{depthOf}
 use Rattle.tables.specs.Table.{Row, unless, Answers}
-use Rattle.tables.proofs.Tables.{outcome-one}
+use Rattle.tables.proofs.Tables.{outcome-one, is-done}
 use Rattle.tables.proofs.Exactness.{Without, answers-among, outcome-without}
 use Rattle.panel.specs.Panels.{deepOf, Good}
 use Rattle.panel.specs.Calls.{panelRows, mergeRows}
 use Rattle.panel.proofs.LeafRows.{rowsBehind}
 use Rattle.panel.proofs.Once.{split-one, merge-one}
 use Rattle.records.specs.Records.{number, Fine}
+use Rattle.records.specs.InTurn.InTurn.{none}
 use Rattle.records.proofs.InTurn.{turns-one}
 use Rattle.rounds.specs.Rounds.{Single, Lent, RoundAt, roundRows, Round}
 use Rattle.rounds.specs.Rounds.Single.{bad, split, merge}
@@ -70,3 +71,9 @@ module _ (s rs out : List ℕ) where
 
   pub round-one : (n m : ℕ) (x y : Lent) → Round s rs out n x → Round s rs out m y → (n ≡ m) × (x ≡ y)
   round-one = outcome-one (roundRows s rs out) Lent (RoundAt s rs out) (λ z. z ≡ record { panel = s; answers = out }) done-one (λ x y p q. p ∙ sym q)
+
+-- with no record, on a good panel, it is done and changes nothing
+pub round-empty : {s out : List ℕ} {n : ℕ} {x : Lent} → Good s → Round s [] out n x → (n ≡ 0) × (x ≡ record { panel = s; answers = out })
+round-empty {s} {out} {n} {x} g o =
+    let a : Answers (roundRows s [] out) 0 = inr (g .fits, inr (g, inr (omega arith, inr (refl, refl)))) in
+    round-one s [] out n 0 x (record { panel = s; answers = out }) o (is-done a (record { in-order = none; long = refl; rest = refl }))

@@ -2,7 +2,7 @@
 use mathlib.Core.Path.{_≡_, refl, sym, ap, _∙_, subst⁻¹, subst₂}
 use mathlib.Core.Logic.{_⊎_, inl, inr, ⊎-elim}
 use mathlib.Core.List.{List, _++_, append-nil}
-use Prim.Native.Nat.{ℕ, _+_, _≤_}
+use Prim.Native.Nat.{ℕ, _+_, _*_, _≤_}
 use native.Mathlib.Omega.{arith}
 use lib.ListN.{length, drop}
 use lib.Seq.{take-all, drop-length}
@@ -11,7 +11,7 @@ use Rattle.panel.specs.Panels.{sizeOf, deepOf, Good}
 use Rattle.panel.specs.Calls.{Split, Merge}
 use Rattle.records.specs.InTurn.{InTurn}
 use Rattle.records.specs.InTurn.InTurn.{none, more}
-use Rattle.records.proofs.InTurn.{turns-keep}
+use Rattle.records.proofs.InTurn.{record-behind, turns-keep, turns-longer, turns-then}
 use Rattle.steps.specs.Steps.{panelIn, changed, Called, Step}
 use Rattle.steps.specs.Steps.Called.{opened, refused, in-use, split, merge, pin, unpin}
 use Rattle.steps.specs.Steps.Step.{bad, call}
@@ -31,6 +31,10 @@ single-good g (merges f e o) = stays g (λ d. (d .good, d .long)) o
 pub in-order-good : {rs s given t : List ℕ} → Good s → InOrder rs s given t → Good t × (length t ≡ length s)
 in-order-good {s = s} g =
     turns-keep (λ x. Good x × (length x ≡ length s)) (λ r n x y h o. let k = single-good (h .0) (o .0) in (k .0, k .1 ∙ h .1)) (g, refl)
+
+-- records that are sent in two rounds come to what they come to in one
+pub in-order-then : {rs p s xs ys t u : List ℕ} → InOrder rs s xs t → 8 * length xs ≡ length rs → InOrder p t ys u → InOrder (rs ++ p) s (xs ++ ys) u
+in-order-then {rs} {p} {xs = xs} a e b = turns-then (turns-longer p a (omega (arith, e))) (λ j _. record-behind rs p (length xs) j e) b
 
 -- ---- a buffer that is one good panel
 
