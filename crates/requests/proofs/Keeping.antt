@@ -7,10 +7,10 @@ use native.Mathlib.Omega.{arith}
 use lib.ListN.{length, getD, length-append, List·getD-append}
 use lib.Seq.{getD-append-seam}
 use Rattle.records.specs.Records.{kind, recordAt, Fine}
-use Rattle.steps.specs.Steps.{Step}
-use Rattle.steps.specs.Holding.{Holds}
 use Rattle.records.specs.InTurn.{InTurn}
 use Rattle.records.specs.InTurn.InTurn.{none, more}
+use Rattle.steps.specs.Steps.{Step}
+use Rattle.steps.specs.Holding.{Holds}
 use Rattle.steps.proofs.Keeping.{step-refused, holds-none, step-none, step-first}
 use Rattle.turns.specs.Runs.{Stepped, Runs}
 use Rattle.turns.proofs.Running.{runs-holds}

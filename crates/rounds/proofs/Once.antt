@@ -4,7 +4,7 @@ use mathlib.Core.Logic.{_≢_, inl, inr, _↔_}
 use mathlib.Core.List.{List, [], _∷_, _++_}
 use Prim.Native.Nat.{ℕ, _/_, _<_, min}
 use native.Mathlib.Omega.{arith}
-use lib.ListN.{length, take, length-take, take-append-drop}
+use lib.ListN.{length, take, drop, length-take, take-append-drop}
 use Rattle.bits.specs.Bits.{Bytes}
 use Rattle.nodes.specs.Depth.{depthOf}
 use Rattle.tables.specs.Table.{Row, unless, Answers}
@@ -58,16 +58,19 @@ single-judged {r} {s} g (merge f e o) = past-judge (rowsBehind s (number r) (mer
 
 -- ---- a round
 
+-- lists that are as long have first parts that are as long, and are the same where these and the rests are
+take-long : (n : ℕ) (v w : List ℕ) → length v ≡ length w → length (take n v) ≡ length (take n w)
+take-long n v w e = length-take n v ∙ ap (min n) e ∙ sym (length-take n w)
+
+same-parts : (n : ℕ) (v w : List ℕ) → take n v ≡ take n w → drop n v ≡ drop n w → v ≡ w
+same-parts n v w a b = sym (take-append-drop n v) ∙ ap₂ (λ x y. x ++ y) a b ∙ take-append-drop n w
+
 module _ (s rs out : List ℕ) where
   done-one : (x y : Lent) → RoundAt s rs out x → RoundAt s rs out y → x ≡ y
   done-one x y p q =
-      let n : ℕ = length rs / 8 in
-      let l : length (take n (x .answers)) ≡ length (take n (y .answers)) =
-      length-take n (x .answers) ∙ ap (min n) (p .long ∙ sym (q .long)) ∙ sym (length-take n (y .answers)) in
-      let e = turns-one (λ r k m a b c v w. single-one (v .1) (w .1) (v .0) (w .0)) (p .in-order) (q .in-order) l in
-      let a : x .answers ≡ y .answers =
-      sym (take-append-drop n (x .answers)) ∙ ap₂ (λ v w. v ++ w) (e .0) (p .rest ∙ sym (q .rest)) ∙ take-append-drop n (y .answers) in
-      ap₂ (λ v w. record { panel = v; answers = w }) (e .1) a
+      let l = take-long (length rs / 8) (x .answers) (y .answers) (p .long ∙ sym (q .long)) in
+      let e = turns-one (λ r n m a b c v w. single-one (v .1) (w .1) (v .0) (w .0)) (p .in-order) (q .in-order) l in
+      ap₂ (λ v w. record { panel = v; answers = w }) (e .1) (same-parts (length rs / 8) (x .answers) (y .answers) (e .0) (p .rest ∙ sym (q .rest)))
 
   pub round-one : (n m : ℕ) (x y : Lent) → Round s rs out n x → Round s rs out m y → (n ≡ m) × (x ≡ y)
   round-one = outcome-one (roundRows s rs out) Lent (RoundAt s rs out) (λ z. z ≡ record { panel = s; answers = out }) done-one (λ x y p q. p ∙ sym q)

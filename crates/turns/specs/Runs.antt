@@ -9,6 +9,7 @@ use Rattle.steps.specs.Steps.{Step}
 abbrev pub Stepped : ℕ → ℕ → List ℕ → ℕ × List ℕ → ℕ → ℕ × List ℕ → Type 0
 Stepped first last r x n y = Step first last r (x .0) (x .1) n (y .0) (y .1) × Bytes (y .1)
 
--- the first records in turn, of the kinds from `first` to `last`, from a buffer b where the panel of depth C is open: their answers, and the depth and the buffer after them
+-- the first records in turn, of the kinds from `first` to `last`, from a buffer b where the panel of depth C is open: their answers, and the depth
+-- and the buffer after them
 abbrev pub Runs : ℕ → ℕ → List ℕ → ℕ → List ℕ → List ℕ → ℕ → List ℕ → Type 0
 Runs first last rs C b given D u = InTurn (ℕ × List ℕ) (Stepped first last) rs (C, b) given (D, u)
