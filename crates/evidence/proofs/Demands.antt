@@ -55,14 +55,14 @@ use Rattle.requests.proofs.Once.{part-one, run-one}
 use Rattle.requests.proofs.Parts.{parts-one}
 use Rattle.printing.specs.Printing.{Lines}
 use Rattle.printing.proofs.Once.{lines-one, lines-then}
-use Rattle.evidence.specs.Known.{Every, knownCases}
+use Rattle.evidence.specs.Known.{Every, knownCases, KnownRound}
 use Rattle.tables.specs.Exactly.{Exactly}
 use Rattle.tables.proofs.Exactness.{Differing, refused-exactly}
 use Rattle.evidence.proofs.Held.{Held, Since, never-covered}
 use Rattle.evidence.proofs.Known.{known}
 use Rattle.evidence.proofs.NoLeaf.{WhyNoLeaf, why-no-leaf, SaysWhy, says-why}
 use Rattle.evidence.proofs.Numbers.{NumbersName, numbers-name, number-of-leaf-at, leaf-at-number-of}
-use Rattle.evidence.proofs.Rounds.{round-reached, round-since}
+use Rattle.evidence.proofs.Rounds.{round-reached, round-since, known-round}
 use Rattle.evidence.proofs.Scans.{ScanKept, run-keeps-scan, runs-stay, runs-grow}
 use Rattle.evidence.proofs.ThereAndBack.{PinnedAround}
 use Rattle.evidence.proofs.Sequences.{Reached, always-good, always-covers, always-long-side, split-grows, back-answers, back-restores, again-restores}
@@ -243,6 +243,7 @@ pub record Demand2 : Type 0 where
   pub node : (n : ℕ) → KnownNode n → Placed n
   pub corners : (n : ℕ) (t : Triangle) → Corners n 0 t → HandedOut n t
   pub cases : Every knownCases
+  pub round : KnownRound
 
 total-same : (f g : ℕ → ℕ) (c : ℕ) → ((i : ℕ) → i < c → f i ≡ g i) → total f c ≡ total g c
 unfolding total
@@ -295,7 +296,7 @@ node-placed n k =
     }
 
 pub demand-2 : Demand2
-demand-2 = record { panel = panel-read; node = node-placed; corners = handed-out; cases = known }
+demand-2 = record { panel = panel-read; node = node-placed; corners = handed-out; cases = known; round = known-round }
 
 -- ---- demand 3: any sequence of calls keeps covering and the long side rule; splits are smallest and bounded, merges exact
 

@@ -1,12 +1,13 @@
--- The cases of "Known panels" that are marked [M], with pins zero, and some of 02, W4, W6 and W7: requests and what is expected of them, as data, and what it is for a case to hold.
+-- The cases of "Known panels" that are marked [M], with pins zero, and some of 02, W1, W4, W6 and W7: requests and what is expected of them, as data, and what it is for a case to hold.
 use mathlib.Core.Path.{_≡_}
-use mathlib.Core.List.{List, [], _∷_}
+use mathlib.Core.List.{List, [], _∷_, _++_}
 use Prim.Native.Nat.{ℕ, suc}
 use lib.ListN.{length}
 use Rattle.nodes.specs.declared.triples.Triple.{Triple}
 use Rattle.triangles.specs.Corners.{Triangle, point, triangle}
 use Rattle.node_calls.specs.Calls.{Neighbours, Corners}
 use Rattle.panel.specs.Calls.{Judged, Count, LeafAt, Ancestor, NumberOf, PinOf, Open, Split, Merge, Pin, Unpin}
+use Rattle.rounds.specs.Rounds.{Round}
 
 -- ---- what a case is
 
@@ -128,3 +129,17 @@ knownCases =
     ∷ corners 10 (triangle (point 0 0) (point 128 0) (point 128 128))
     ∷ corners 4 (triangle (point 0 0) (point 128 128) (point 0 256))
     ∷ pinCases
+
+-- ---- a round, by 02, W1
+
+-- a record of this kind with node k
+abbrev pub asks : ℕ → ℕ → List ℕ
+asks c k = c ∷ 0 ∷ 0 ∷ 0 ∷ k ∷ 0 ∷ 0 ∷ 0 ∷ []
+
+-- split 2; split 8, which lies below leaf 4; pin 4, which is bad in a round; split 4; merge 5, which lacks leaves
+abbrev pub knownRecords : List ℕ
+knownRecords = asks 1 2 ++ asks 1 8 ++ asks 3 4 ++ asks 1 4 ++ asks 2 5
+
+-- a sixth answer byte stays
+abbrev pub KnownRound : Type 0
+KnownRound = Round (opened 0) knownRecords (1 ∷ 1 ∷ 1 ∷ 1 ∷ 1 ∷ 0xEE ∷ []) 0 (record { panel = fiveLeaves 0; answers = 0 ∷ 10 ∷ 9 ∷ 0 ∷ 7 ∷ 0xEE ∷ [] })
