@@ -21,7 +21,7 @@ use Rattle.steps.specs.Steps.Step.{bad, call}
 use Rattle.steps.specs.Holding.{Holds}
 use Rattle.steps.proofs.Keeping.{holds-none}
 use Rattle.steps.proofs.Parts.{same-changed, held-length, leaves-none, leaves-open, leaves-changed}
-use Rattle.turns.specs.Runs.{Stepped, Runs}
+use Rattle.turns.specs.Runs.{StepBytes, Runs}
 use Rattle.turns.proofs.Running.{runs-holds}
 use Rattle.requests.proofs.Keeping.{NoneDone, before-none, last-none}
 use Rattle.evidence.proofs.Sequences.{split-grows}
@@ -113,12 +113,12 @@ run-keeps-scan {b = b} r s = step-keeps-scan (runs-holds (holds-none b) r) s
 
 module _ {rs : List ℕ} {x : ℕ × List ℕ} (h : Holds (x .0) (x .1)) where
   -- an open panel stays open
-  pub runs-stay : {given : List ℕ} {y : ℕ × List ℕ} → InTurn (ℕ × List ℕ) (Stepped 0 4) rs x given y → x .0 ≢ 0 → y .0 ≢ 0
+  pub runs-stay : {given : List ℕ} {y : ℕ × List ℕ} → InTurn (ℕ × List ℕ) (StepBytes 0 4) rs x given y → x .0 ≢ 0 → y .0 ≢ 0
   runs-stay none z = z
   runs-stay (more r (s, _)) z = step-keeps-scan (runs-holds h r) s .stays (runs-stay r z)
 
   -- and where no merge is accepted, its leaf count is not lowered
-  pub runs-grow : {given : List ℕ} {y : ℕ × List ℕ} → InTurn (ℕ × List ℕ) (Stepped 0 4) rs x given y → NoneDone 2 rs given
+  pub runs-grow : {given : List ℕ} {y : ℕ × List ℕ} → InTurn (ℕ × List ℕ) (StepBytes 0 4) rs x given y → NoneDone 2 rs given
       → leavesIn (x .0) (x .1) ≤ leavesIn (y .0) (y .1)
   runs-grow none m = omega arith
   runs-grow (more {given = g} {n = n} r (s, _)) m =

@@ -12,7 +12,7 @@ use Rattle.records.specs.InTurn.InTurn.{none, more}
 use Rattle.steps.specs.Steps.{Step}
 use Rattle.steps.specs.Holding.{Holds}
 use Rattle.steps.proofs.Keeping.{step-refused, holds-none, step-none, step-first}
-use Rattle.turns.specs.Runs.{Stepped, Runs}
+use Rattle.turns.specs.Runs.{StepBytes, Runs}
 use Rattle.turns.proofs.Running.{runs-holds}
 use Rattle.requests.specs.Requests.{Run, Ended}
 
@@ -43,7 +43,7 @@ module _ {c : ℕ} (rs g : List ℕ) (n : ℕ) (h : NoneDone c rs (g ++ (n ∷ [
 -- ---- before the first accepted open
 
 -- no panel is open, and every byte is as before
-pub none-opened : {rs b given : List ℕ} {y : ℕ × List ℕ} → InTurn (ℕ × List ℕ) (Stepped 0 4) rs (0, b) given y → NoneDone 0 rs given → (y .0 ≡ 0) × (y .1 ≡ b)
+pub none-opened : {rs b given : List ℕ} {y : ℕ × List ℕ} → InTurn (ℕ × List ℕ) (StepBytes 0 4) rs (0, b) given y → NoneDone 0 rs given → (y .0 ≡ 0) × (y .1 ≡ b)
 none-opened none h = (refl, refl)
 none-opened {rs} (more {given = g} {n = n} {t = t} {u = u} r (s, y)) h =
     let i = none-opened r (before-none rs g n h) in

@@ -17,7 +17,7 @@ use Rattle.steps.specs.Steps.Called.{opened, refused, in-use, split, merge, pin
 use Rattle.steps.specs.Steps.Step.{bad, call}
 use Rattle.steps.specs.Holding.{Holds}
 use Rattle.steps.proofs.Keeping.{stays}
-use Rattle.turns.specs.Runs.{Stepped}
+use Rattle.turns.specs.Runs.{StepBytes}
 use Rattle.rounds.specs.Rounds.{Single, InOrder}
 use Rattle.rounds.specs.Rounds.Single.{bad as bad-single, split as splits, merge as merges}
 
@@ -65,7 +65,7 @@ pub good-holds : {D : ℕ} {s : List ℕ} → Good s → D ≡ deepOf s → Hold
 good-holds g d = let e = panel-whole _ _ (good-long g d) in record { good = λ _. subst⁻¹ Good e g; deep = λ _. d ∙ ap deepOf (sym e) }
 
 -- the panel is all of the buffer after each record too
-pub runs-in-order : {rs given : List ℕ} {x y : ℕ × List ℕ} → Good (x .1) → x .0 ≡ deepOf (x .1) → InTurn (ℕ × List ℕ) (Stepped 1 2) rs x given y
+pub runs-in-order : {rs given : List ℕ} {x y : ℕ × List ℕ} → Good (x .1) → x .0 ≡ deepOf (x .1) → InTurn (ℕ × List ℕ) (StepBytes 1 2) rs x given y
     → (y .0 ≡ deepOf (y .1)) × InOrder rs (x .1) given (y .1)
 runs-in-order g d none = (d, none)
 runs-in-order g d (more r (o, b)) =
