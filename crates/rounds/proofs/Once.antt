@@ -1,8 +1,8 @@
 -- One input has one outcome: of a record that of its call, of a round that of its records in turn. And what a record's answer says.
-use mathlib.Core.Path.{_≡_, refl, sym, ap, ap₂, _∙_}
+use mathlib.Core.Path.{_≡_, refl, sym, ap₂, _∙_}
 use mathlib.Core.Logic.{_≢_, inl, inr, _↔_}
 use mathlib.Core.List.{List, [], _∷_, _++_}
-use Prim.Native.Nat.{ℕ, _/_, _<_, min}
+use Prim.Native.Nat.{ℕ, _/_, _<_}
 use native.Mathlib.Omega.{arith}
 use lib.ListN.{length, take, drop, length-take, take-append-drop}
 use Rattle.bits.specs.Bits.{Bytes}
@@ -60,7 +60,7 @@ single-judged {r} {s} g (merge f e o) = past-judge (rowsBehind s (number r) (mer
 
 -- lists that are as long have first parts that are as long, and are the same where these and the rests are
 take-long : (n : ℕ) (v w : List ℕ) → length v ≡ length w → length (take n v) ≡ length (take n w)
-take-long n v w e = length-take n v ∙ ap (min n) e ∙ sym (length-take n w)
+take-long n v w e = omega (arith, length-take n v, length-take n w)
 
 same-parts : (n : ℕ) (v w : List ℕ) → take n v ≡ take n w → drop n v ≡ drop n w → v ≡ w
 same-parts n v w a b = sym (take-append-drop n v) ∙ ap₂ (λ x y. x ++ y) a b ∙ take-append-drop n w
