@@ -1,5 +1,5 @@
 -- A pin set or cleared on a leaf leaves a good panel with the same cuts, and every other leaf's pin.
-use mathlib.Core.Path.{_≡_, sym, ap, ap₂, _∙_, subst}
+use mathlib.Core.Path.{_≡_, sym, ap, _∙_, subst}
 use mathlib.Core.Logic.{_≢_, _↔_, Iff·symm, Iff·trans}
 use mathlib.Core.List.{List, []}
 use Prim.Native.Nat.{ℕ, _+_, _*_, _^_, _≤_, _<_}
@@ -10,8 +10,9 @@ use lib.Pow.{pow-pos, pow-add}
 use Rattle.bits.specs.Bits.{bit}
 use Rattle.nodes.proofs.Depths.{pow-next}
 use Rattle.words.specs.Words.{word, leafBit}
-use Rattle.words.proofs.Slots.{in-panel, word-same}
+use Rattle.words.proofs.Slots.{words-same}
 use Rattle.sums.specs.Sums.{Right}
+use Rattle.sums.proofs.Unique.{right-same}
 use Rattle.tables.specs.Table.{Answers}
 use Rattle.cuts.specs.Cuts.{placeOf}
 use Rattle.cuts.proofs.ForcedCuts.{good-iff}
@@ -29,29 +30,15 @@ module _ {s : List ℕ} (G : Good s) {k v : ℕ} (L : LeafOf s k) (hv : v < 2) {
   deep = deep-same s t (P .long)
 
   -- the words are as they were
-  same-bit : (q : ℕ) → q < 4 * 2 ^ deepOf s → bit t q ≡ bit s q
-  same-bit q h = P .rest q (λ e. omega arith)
+  same-bit : (q : ℕ) → q < 2 ^ (deepOf s + 2) → bit t q ≡ bit s q
+  same-bit q h = P .rest q (λ e. omega (arith, pow-add 2 (deepOf s) 2))
 
   same-leaf : (p : ℕ) → p < 2 ^ deepOf s → leafBit (deepOf s) t p ≡ leafBit (deepOf s) s p
   unfolding leafBit
-  same-leaf p h = same-bit (3 * 2 ^ deepOf s + p) (omega arith)
-
-  same-word : (n : ℕ) → n < 2 ^ (deepOf s + 1) → word (deepOf s) t n ≡ word (deepOf s) s n
-  same-word n l = word-same (deepOf s) n s t (λ q a b. same-bit q (omega (arith, in-panel (deepOf s) n l, pow-add 2 (deepOf s) 2)))
-
-  right : Right (deepOf s) t
-  right = record {
-    bit-0 = same-bit 0 (omega (arith, pow-pos (deepOf s))) ∙ G .right .bit-0;
-    bit-1 = same-bit 1 (omega (arith, pow-pos (deepOf s))) ∙ G .right .bit-1;
-    depth = same-word 0 (pow-pos (deepOf s + 1)) ∙ G .right .depth;
-    sums = λ n l h.
-        let two = pow-next (deepOf s) in
-        same-word n (omega arith) ∙ G .right .sums n l h
-        ∙ sym (ap₂ (λ x y. x + y) (same-word (2 * n) (omega arith)) (same-word (2 * n + 1) (omega arith)));
-  }
+  same-leaf p h = same-bit (3 * 2 ^ deepOf s + p) (omega (arith, pow-add 2 (deepOf s) 2))
 
   pub pinned-count : leafCount t ≡ leafCount s
-  pinned-count = ap (λ D. word D t 1) deep ∙ same-word 1 (omega (arith, pow-next (deepOf s), pow-pos (deepOf s)))
+  pinned-count = ap (λ D. word D t 1) deep ∙ words-same (deepOf s) s t same-bit 1 (omega (arith, pow-next (deepOf s), pow-pos (deepOf s)))
 
   pub pinned-cuts : (n : ℕ) → CutOf t n ↔ CutOf s n
   pinned-cuts n = Iff·trans (cut-of s t (P .long) n) (cut-same (deepOf s) (leafBit (deepOf s) t) (leafBit (deepOf s) s) same-leaf n)
@@ -74,7 +61,7 @@ module _ {s : List ℕ} (G : Good s) {k v : ℕ} (L : LeafOf s k) (hv : v < 2) {
   pub pinned-good : Good t
   pinned-good = record {
     fits = subst (Fits t) (sym deep) (record { low = G .fits .low; high = G .fits .high; long = P .long ∙ G .fits .long });
-    right = subst (λ D. Right D t) (sym deep) right;
+    right = subst (λ D. Right D t) (sym deep) (right-same same-bit (G .right));
     first = subst (λ D. leafBit D t 0 ≡ 1) (sym deep) (same-leaf 0 (pow-pos (deepOf s)) ∙ G .first);
     cuts = good-iff (λ n h. Iff·symm (pinned-cuts n)) (G .cuts);
     pins = subst (λ D. PinsOnLeaves D t) (sym deep) on;

@@ -12,7 +12,7 @@ use Rattle.nodes.proofs.Depths.{pow-next}
 use Rattle.words.specs.Words.{word, leafBit}
 use Rattle.sums.specs.Sums.{SumsRight, Right}
 use Rattle.sums.specs.inner.Summed.{Summed}
-use Rattle.words.proofs.Slots.{packed, from-one, word-same, words-ext, leaf-word}
+use Rattle.words.proofs.Slots.{packed, from-one, word-same, words-same, words-ext, leaf-word}
 
 -- right sums over the same leaf bits are the same
 module _ (D : ℕ) (xs ys : List ℕ) (a : SumsRight D xs) (b : SumsRight D ys) (leaf : (p : ℕ) → p < 2 ^ D → leafBit D xs p ≡ leafBit D ys p) where
@@ -40,6 +40,20 @@ module _ (D : ℕ) (xs ys : List ℕ) (a : SumsRight D xs) (b : SumsRight D ys) 
       words : (k : ℕ) → k < 2 ^ (D + 1) → word D xs k ≡ word D ys k
       words zero h = zeroth
       words (suc k) h = sums-same (suc k) (omega arith) h
+
+-- right sums stay where the words' bits do
+pub right-same : {D : ℕ} {xs ys : List ℕ} → ((p : ℕ) → p < 2 ^ (D + 2) → bit ys p ≡ bit xs p) → Right D xs → Right D ys
+right-same {D} {xs} {ys} same r = record {
+  bit-0 = same 0 (pow-pos (D + 2)) ∙ r .bit-0;
+  bit-1 = same 1 (omega (arith, pow-pos D, pow-add 2 D 2)) ∙ r .bit-1;
+  depth = words 0 (pow-pos (D + 1)) ∙ r .depth;
+  sums = λ k l h.
+      let two = pow-next D in
+      words k (omega arith) ∙ r .sums k l h ∙ sym (ap₂ (λ (u v : ℕ). u + v) (words (2 * k) (omega arith)) (words (2 * k + 1) (omega arith)));
+}
+  where
+    words : (k : ℕ) → k < 2 ^ (D + 1) → word D ys k ≡ word D xs k
+    words = words-same D xs ys same
 
 -- one length, one list of leaf bits and what stands behind the last word: only one list of bytes is right
 pub right-one : {D : ℕ} {xs ys : List ℕ} → Bytes xs → Bytes ys → length xs ≡ length ys → Right D xs → Right D ys

@@ -107,6 +107,10 @@ unfolding word
 word-same D k xs ys h =
     run-ext (bit ys) (bit xs) (from D k) (from D k) (wide D k) (λ i l. h (from D k + i) (omega arith) (omega arith))
 
+-- all words stay where no bit before the end of the last changes
+pub words-same : (D : ℕ) (xs ys : List ℕ) → ((p : ℕ) → p < 2 ^ (D + 2) → bit ys p ≡ bit xs p) → (k : ℕ) → k < 2 ^ (D + 1) → word D ys k ≡ word D xs k
+words-same D xs ys same k h = word-same D k xs ys (λ p a b. same p (omega (arith, in-panel D k h)))
+
 -- ---- bits 0 and 1, the words, and what stands behind them make the whole
 
 pub from-zero : (D : ℕ) → from D 0 ≡ 2
