@@ -3,7 +3,7 @@ use mathlib.Core.Path.{_≡_, refl, sym, ap, ap₂, _∙_, subst}
 use mathlib.Core.Logic.{_⊎_, inl, inr, ⊎-elim}
 use mathlib.Core.List.{List}
 use Prim.Native.Nat.{ℕ, zero, suc, _+_, _-_, _*_, _/_, _%_, _^_, _≤_, _<_}
-use native.Mathlib.Nat.{le-dest, mod-lt, mod-eq-of-lt, le-mul-of-pos-right, div-mul-le-self}
+use native.Mathlib.Nat.{add-mul, div-add-mod', le-dest, mod-lt, mod-eq-of-lt, le-mul-of-pos-right, div-mul-le-self}
 use native.Mathlib.Omega.{arith}
 use lib.ListN.{length, getD, set, drop, length-set}
 use lib.Seq.{getD-set-same, getD-set-other, getD-drop}
@@ -139,6 +139,31 @@ module _ (n k w v : ℕ) (hn : n < 2 ^ 32) (hk : k < 32) (hw : k + w ≤ 32) (hv
 
   pub head-lt : n / 2 ^ k / 2 ^ w * 2 ^ w % 2 ^ 32 + v < 2 ^ 32
   head-lt = omega (arith, back, whole, le-mul-of-pos-right (n / 2 ^ k / 2 ^ w * 2 ^ w + v) (pow-pos k))
+
+-- a window that is x times 2 ^ k more has x more in the field from digit k on
+module _ (n k w : ℕ) where
+  own-field : withField n k w (n / 2 ^ k % 2 ^ w) ≡ n
+  own-field = ap (λ (x : ℕ). x * 2 ^ k + n % 2 ^ k) (div-add-mod' (n / 2 ^ k) (2 ^ w)) ∙ div-add-mod' n (2 ^ k)
+
+  more-field : (v x : ℕ) → withField n k w (v + x) ≡ withField n k w v + x * 2 ^ k
+  more-field v x = omega (arith, add-mul (n / 2 ^ k / 2 ^ w * 2 ^ w + v) x (2 ^ k))
+
+-- so it is for a field that gains up and loses down, and the machine's numbers hold it
+pub record Moved (n k w up down : ℕ) : Type 0 where
+  pub fits : n + up * 2 ^ k % 2 ^ 32 < 2 ^ 32
+  pub takes : down * 2 ^ k % 2 ^ 32 ≤ n + up * 2 ^ k % 2 ^ 32
+  pub is : n + up * 2 ^ k % 2 ^ 32 - down * 2 ^ k % 2 ^ 32 ≡ withField n k w (n / 2 ^ k % 2 ^ w + up - down)
+
+pub moved : (n k w up down : ℕ) → n < 2 ^ 32 → k < 32 → k + w ≤ 32 → n / 2 ^ k % 2 ^ w + up < 2 ^ w → down ≤ n / 2 ^ k % 2 ^ w + up → Moved n k w up down
+moved n k w up down hn hk hw hu hd =
+    let f : ℕ = n / 2 ^ k % 2 ^ w in
+    let a : withField n k w (f + up) ≡ n + up * 2 ^ k = more-field n k w f up ∙ ap (λ (x : ℕ). x + up * 2 ^ k) (own-field n k w) in
+    let b : withField n k w (f + up) ≡ withField n k w (f + up - down) + down * 2 ^ k =
+    ap (withField n k w) (let e : f + up ≡ f + up - down + down = omega arith in e) ∙ more-field n k w (f + up - down) down in
+    let l = whole n k w (f + up) hn hk hw hu in
+    let u : up * 2 ^ k % 2 ^ 32 ≡ up * 2 ^ k = mod-eq-of-lt (omega arith) in
+    let d : down * 2 ^ k % 2 ^ 32 ≡ down * 2 ^ k = mod-eq-of-lt (omega arith) in
+    record { fits = omega arith; takes = omega arith; is = omega arith }
 
 -- ---- a part of the list
 

@@ -1,7 +1,7 @@
 // Fields of bits in lent bytes. One of any place goes through a window of four bytes that always lies inside: four bytes hold a field
 // of up to 25 bits wherever in a byte it starts, fields to 24 bits and one bit to spare. One of whole bytes needs no window.
 ghost use mathlib.Core.Path.{_≡_};
-ghost use Prim.Native.Nat.{_+_, _*_, _^_, _≤_, _<_};
+ghost use Prim.Native.Nat.{_+_, _-_, _*_, _^_, _≤_, _<_};
 ghost use lib.ListN.{length};
 ghost use Rattle.bits.specs.Bits.{field};
 ghost use Rattle.bits.specs.inner.Puts.{putField};
@@ -37,6 +37,17 @@ pub fn put_field(bytes: &mut [u8], s: usize, w: usize, v: u32)
     let low = n % (1u32 << k);
     let high = n >> k >> w;
     bits::store_four(bytes, i, (((high << w) + v) << k) + low);
+}
+
+// Adds up to the number in the w bits from bit s on, and takes down from it.
+pub fn move_field(bytes: &mut [u8], s: usize, w: usize, up: u32, down: u32)
+    requires { ⌜ (4 ≤ length (now bytes)) × (s + w ≤ 8 * length (now bytes)) × (0 < w) × (w ≤ 25) × (field (now bytes) s w + up < 2 ^ w) × (down ≤ field (now bytes) s w + up) ⌝ }
+    ensures { λ _. ⌜ now (bytes .exit) ≡ putField (now (bytes .entry)) s w (field (now (bytes .entry)) s w + up - down) ⌝ }
+{
+    let i = place(bytes.len(), s);
+    let k = s - 8 * i;
+    let n = bits::get_four(bytes, i);
+    bits::store_four(bytes, i, n + (up << k) - (down << k));
 }
 
 // The eight bytes from i on: the field of their 64 bits.

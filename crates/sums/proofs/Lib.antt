@@ -1,3 +1,5 @@
+pub mod Changes
+pub mod Climbing
 pub mod Counts
 pub mod LowSix
 pub mod LowThree
