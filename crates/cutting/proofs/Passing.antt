@@ -7,27 +7,28 @@ use native.Mathlib.Decide.{ℕ-discrete}
 use native.Mathlib.Omega.{arith}
 use lib.ListN.{length}
 use Rattle.words.specs.Words.{leafBit}
-use Rattle.words.specs.inner.Working.{putLeafBit}
-use Rattle.sums.specs.inner.Summed.{Summed}
-use Rattle.words.proofs.Leaves.{length-put-leaf, leaf-put-same, leaf-put-other}
-use Rattle.sums.proofs.Unique.{summed-leaf}
 use Rattle.cuts.specs.Cuts.{Cut, Leaf, placeOf, named}
 use Rattle.cuts.proofs.Following.{place-cut}
 use Rattle.cuts.proofs.Places.{cut-set}
+use Rattle.cuts.proofs.OneBit.{OneBit}
 use Rattle.cuts.proofs.Leaves.{GoodBits, leaf-depth, leaf-place, leaf-set}
 use Rattle.pins.specs.Pins.{pinBit, PinsOnLeaves}
-use Rattle.pins.specs.inner.Steps.{PinRoom}
 use Rattle.pins.specs.inner.Over.{over}
-use Rattle.pins.proofs.Overs.{over-set, over-same, PassedOn, over-put}
+use Rattle.pins.proofs.Overs.{over-set, PassedOn, over-put}
 use Rattle.pins.proofs.Beneath.{over-node, over-cut}
-use Rattle.pins.proofs.PinBits.{pin-lt, pin-room-same, pin-put-same, pin-put-other, leaf-put-pin, pin-put-leaf, summed-pin}
+use Rattle.pins.proofs.PinBits.{pin-lt, pin-put-same, pin-put-other}
 use Rattle.panel.specs.Panels.{deepOf, CutOf, Good, LeafOf}
 use Rattle.panel.specs.Calls.{PinsPassed}
-use Rattle.cutting.specs.inner.Changing.{CutUnder, AtWork, CutIn, PinsStay}
+use Rattle.cutting.specs.inner.Changing.{CutUnder}
 use Rattle.panel.proofs.Lengths.{fits-small}
 use Rattle.panel.proofs.SameBytes.{deep-same}
 use Rattle.panel.proofs.GoodPanels.{good-bits}
-use Rattle.cutting.proofs.AtWork.{work-pins}
+use Rattle.cutting.proofs.AtWork.{AtWork, CutIn, work-pins, one-bit, put-pins, work-half, under-leaf}
+
+-- the pin that lies over a place is at every place that of panel s, and none lies beside a leaf bit
+pub record PinsStay (s xs : List ℕ) : Type 0 where
+  pub over : (p : ℕ) → p < 2 ^ deepOf s → over (leafBit (deepOf s) xs) (pinBit (deepOf s) xs) p ≡ over (leafBit (deepOf s) s) (pinBit (deepOf s) s) p
+  pub on : PinsOnLeaves (deepOf s) xs
 
 module _ {s : List ℕ} (G : Good s) where
   pub stay-start : PinsStay s s
@@ -60,57 +61,44 @@ module _ {s : List ℕ} (G : Good s) where
       v-lt : pinBit (deepOf s) bs (placeOf (deepOf s) l) < 2
       v-lt = pin-lt (deepOf s) bs (placeOf (deepOf s) l)
 
-      abbrev half : List ℕ
-      half = putLeafBit (deepOf s) bs (c .place) 1
+      set-bit : OneBit (deepOf s) (leafBit (deepOf s) bs) (leafBit (deepOf s) (c .half)) (c .cut .place) 1
+      set-bit = one-bit G w (c .cut) (omega arith)
 
-      room : PinRoom (deepOf s) half
-      room = pin-room-same (length-put-leaf (deepOf s) bs (c .place) 1) (work-pins G w)
-
-      passed-on : PassedOn (2 ^ deepOf s) (leafBit (deepOf s) bs) (pinBit (deepOf s) bs) (leafBit (deepOf s) ys) (pinBit (deepOf s) ys) (c .place)
-      passed-on = rw (c .put) (record {
-        low = c .at .low;
-        here =
-            leaf-put-pin (deepOf s) half (c .place) (pinBit (deepOf s) bs (placeOf (deepOf s) l)) v-lt (c .place) (c .at .high)
-            ∙ leaf-put-same (deepOf s) bs (c .place) 1 (omega arith) (work-pins G w .words) (c .at .high);
+      passed-on : PassedOn (2 ^ deepOf s) (leafBit (deepOf s) bs) (pinBit (deepOf s) bs) (leafBit (deepOf s) ys) (pinBit (deepOf s) ys) (c .cut .place)
+      passed-on = record {
+        low = c .cut .at .low;
+        here = under-leaf G w c (c .cut .place) (c .cut .at .high) ∙ set-bit .here;
         pin =
-            pin-put-same (deepOf s) half (c .place) (pinBit (deepOf s) bs (placeOf (deepOf s) l)) v-lt room (c .at .high)
-            ∙ leaf-pin l L ∙ sym (over-cut (deepOf s) (leafBit (deepOf s) s) (good-bits s G) l L (pinBit (deepOf s) s) i n (c .place) up (c .at))
-            ∙ sym (stay .over (c .place) (c .at .high));
-        other = λ q h z.
-            leaf-put-pin (deepOf s) half (c .place) (pinBit (deepOf s) bs (placeOf (deepOf s) l)) v-lt q h
-            ∙ leaf-put-other (deepOf s) bs (c .place) 1 (omega arith) q z;
+            rw (c .put) (pin-put-same (deepOf s) (c .half) (c .cut .place) (pinBit (deepOf s) bs (placeOf (deepOf s) l)) v-lt (work-pins G (work-half G w c)) (c .cut .at .high))
+            ∙ leaf-pin l L ∙ sym (over-cut (deepOf s) (leafBit (deepOf s) s) (good-bits s G) l L (pinBit (deepOf s) s) i n (c .cut .place) up (c .cut .at))
+            ∙ sym (stay .over (c .cut .place) (c .cut .at .high));
+        other = λ q h z. under-leaf G w c q h ∙ set-bit .other q h z;
         others = λ q h z.
-            pin-put-other (deepOf s) half (c .place) (pinBit (deepOf s) bs (placeOf (deepOf s) l)) v-lt q z
-            ∙ pin-put-leaf (deepOf s) bs (c .place) 1 (omega arith) (c .at .high) q;
-      })
+            rw (c .put) (pin-put-other (deepOf s) (c .half) (c .cut .place) (pinBit (deepOf s) bs (placeOf (deepOf s) l)) v-lt q z)
+            ∙ put-pins G w (c .cut) (omega arith) q;
+      }
 
       pub stay-under : PinsStay s ys
-      stay-under = record { over = λ p h. over-put passed-on p h ∙ stay .over p h; on = λ p h. on p h (ℕ-discrete p (c .place)) }
+      stay-under = record { over = λ p h. over-put passed-on p h ∙ stay .over p h; on = λ p h. on p h (ℕ-discrete p (c .cut .place)) }
         where
-          on : (p : ℕ) → p < 2 ^ deepOf s → Dec (p ≡ c .place) → pinBit (deepOf s) ys p ≤ leafBit (deepOf s) ys p
+          on : (p : ℕ) → p < 2 ^ deepOf s → Dec (p ≡ c .cut .place) → pinBit (deepOf s) ys p ≤ leafBit (deepOf s) ys p
           on p h (yes e) = omega (arith, pin-lt (deepOf s) ys p, ap (leafBit (deepOf s) ys) e, passed-on .here)
           on p h (no e) = omega (arith, passed-on .other p h e, passed-on .others p h e, stay .on p h)
 
-  -- ---- the sums are made right
+  -- ---- the panel that is left
 
-  module _ {bs t : List ℕ} (stay : PinsStay s bs) (m : Summed (deepOf s) bs t) where
-    pub made-on : PinsOnLeaves (deepOf s) t
-    made-on p h = omega (arith, summed-leaf m p, summed-pin m p, stay .on p h)
+  -- each new leaf has the pin of the old leaf above it
+  pub stay-passed : {t : List ℕ} → PinsStay s t → Good t → length t ≡ length s → PinsPassed s t
+  stay-passed {t} stay T e l k j L K up = (λ p. sym same ∙ p, λ p. same ∙ p)
+    where
+      new : GoodBits (deepOf s) (leafBit (deepOf s) t) → Leaf (Cut (deepOf s) (leafBit (deepOf s) t)) k
+          → pinBit (deepOf s) t (placeOf (deepOf s) k) ≡ pinBit (deepOf s) s (placeOf (deepOf s) l)
+      new g M =
+          sym (over-set (leafBit (deepOf s) t) (pinBit (deepOf s) t) (placeOf (deepOf s) k) (leaf-set (deepOf s) (leafBit (deepOf s) t) g k M))
+          ∙ stay .over (placeOf (deepOf s) k) (leaf-place (deepOf s) (leafBit (deepOf s) t) g k M)
+          ∙ over-node (deepOf s) (leafBit (deepOf s) s) (good-bits s G) l L (pinBit (deepOf s) s) j k up (leaf-depth (deepOf s) (leafBit (deepOf s) t) g k M)
 
-    -- each new leaf has the pin of the old leaf above it
-    pub made-passed : Good t → length t ≡ length s → PinsPassed s t
-    made-passed T e l k j L K up = (λ p. sym same ∙ p, λ p. same ∙ p)
-      where
-        new : GoodBits (deepOf s) (leafBit (deepOf s) t) → Leaf (Cut (deepOf s) (leafBit (deepOf s) t)) k
-            → pinBit (deepOf s) t (placeOf (deepOf s) k) ≡ pinBit (deepOf s) s (placeOf (deepOf s) l)
-        new g M =
-            let h = leaf-place (deepOf s) (leafBit (deepOf s) t) g k M in
-            sym (over-set (leafBit (deepOf s) t) (pinBit (deepOf s) t) (placeOf (deepOf s) k) (leaf-set (deepOf s) (leafBit (deepOf s) t) g k M))
-            ∙ over-same (leafBit (deepOf s) bs) (pinBit (deepOf s) bs) (leafBit (deepOf s) t) (pinBit (deepOf s) t) (placeOf (deepOf s) k) (λ q _. summed-leaf m q) (λ q _. summed-pin m q)
-            ∙ stay .over (placeOf (deepOf s) k) h
-            ∙ over-node (deepOf s) (leafBit (deepOf s) s) (good-bits s G) l L (pinBit (deepOf s) s) j k up (leaf-depth (deepOf s) (leafBit (deepOf s) t) g k M)
-
-        same : pinBit (deepOf t) t (placeOf (deepOf t) k) ≡ pinBit (deepOf s) s (placeOf (deepOf s) l)
-        same =
-            subst (λ (x : ℕ). GoodBits x (leafBit x t) → Leaf (Cut x (leafBit x t)) k → pinBit x t (placeOf x k) ≡ pinBit (deepOf s) s (placeOf (deepOf s) l))
-            (sym (deep-same s t e)) new (good-bits t T) K
+      same : pinBit (deepOf t) t (placeOf (deepOf t) k) ≡ pinBit (deepOf s) s (placeOf (deepOf s) l)
+      same =
+          subst (λ (x : ℕ). GoodBits x (leafBit x t) → Leaf (Cut x (leafBit x t)) k → pinBit x t (placeOf x k) ≡ pinBit (deepOf s) s (placeOf (deepOf s) l))
+          (sym (deep-same s t e)) new (good-bits t T) K

@@ -12,18 +12,18 @@ use Rattle.nodes.specs.Neighbours.{edge}
 use Rattle.nodes.proofs.Depths.{At, pow-next, at-depth, at-parent, depth-is, depth-half, below-depth}
 use Rattle.nodes.proofs.Edges.{edge-level, edge-mutual}
 use Rattle.words.specs.Words.{leafBit}
-use Rattle.sums.specs.inner.Summed.{Summed}
 use Rattle.cuts.proofs.Leaves.{leaf-depth}
 use Rattle.panel.proofs.GoodPanels.{good-bits}
 use Rattle.panel.specs.Panels.{deepOf, CutOf, Good, LeafOf}
 use Rattle.panel.specs.Calls.{SplitAt}
+use Rattle.cuts.specs.Cuts.{Smallest}
 use Rattle.cuts.specs.inner.Steps.{NodeOf}
-use Rattle.cutting.specs.inner.Changing.{CutUnder, Holder, AtWork, CutIn, PinsStay, SplitBits}
+use Rattle.cutting.specs.inner.Changing.{CutUnder, Holder}
 use Rattle.cuts.proofs.Places.{dec-cut}
 use Rattle.cuts.proofs.ForcedCuts.{next, smallest-iff}
 use Rattle.cuts.proofs.ForcedChain.{Chain, chain-start, chain-root, chain-cut, chain-last, chain-step, chain-smallest}
-use Rattle.cutting.proofs.Passing.{stay-start, stay-under, made-on, made-passed}
-use Rattle.cutting.proofs.AtWork.{shallow, work-start, work-under, under-add, work-long, work-cuts, work-good}
+use Rattle.cutting.proofs.AtWork.{AtWork, CutIn, shallow, work-start, work-under, under-add, work-cuts, work-good}
+use Rattle.cutting.proofs.Passing.{PinsStay, stay-start, stay-under, stay-passed}
 
 -- on the way to k's cut, node m is next
 pub record Splitting (s : List ℕ) (k : ℕ) (bs : List ℕ) (m : ℕ) : Type 0 where
@@ -34,6 +34,12 @@ pub record Splitting (s : List ℕ) (k : ℕ) (bs : List ℕ) (m : ℕ) : Type 0
   pub pins : PinsStay s bs
 
 module _ {s : List ℕ} (G : Good s) where
+  -- the split that is promised
+  split-made : {k : ℕ} {t : List ℕ} → AtWork s t → Smallest (λ n. CutOf s n ⊎ (n ≡ k)) (CutIn s t) → PinsStay s t → SplitAt s k t
+  split-made w c p =
+      let g = work-good G w (c .good) (p .on) in
+      record { good = g; long = w .long; cuts = smallest-iff (λ n. Iff·symm (work-cuts G w n)) c; pins = stay-passed G p g (w .long) }
+
   pub splitting-start : {k : ℕ} → LeafOf s k → depthOf k < deepOf s → Splitting s k s k
   splitting-start l d = record { work = (work-start G); leaf = l; chain = chain-start (G .cuts) l; deep = d; pins = stay-start G }
 
@@ -52,8 +58,8 @@ module _ {s : List ℕ} (G : Good s) where
         go (no h) = absurd (z (chain-root (G .cuts) (c .chain) (omega arith)))
 
     -- where the next node is cut, all is done
-    pub splitting-cut : CutIn s bs m → SplitBits s k bs
-    splitting-cut q = record { work = c .work; cuts = chain-smallest (G .cuts) (c .leaf) (chain-cut (G .cuts) (c .chain) q); pins = c .pins }
+    pub splitting-cut : CutIn s bs m → SplitAt s k bs
+    splitting-cut q = split-made (c .work) (chain-smallest (G .cuts) (c .leaf) (chain-cut (G .cuts) (c .chain) q)) (c .pins)
 
     module _ (low : 2 ≤ m) (uncut : CutIn s bs m → ⊥) {xs : List ℕ} (a : CutUnder (deepOf s) bs m m xs) where
       own : Chain (CutOf s) k (CutIn s bs) (suc (depthOf (m / 2))) m
@@ -73,12 +79,8 @@ module _ {s : List ℕ} (G : Good s) where
       old-1 n p = under-add G (c .work) a n .1 (inl (c .chain .old n p))
 
       -- its own cut is the last where it has no neighbour
-      pub splitting-last : edge m ≡ 0 → SplitBits s k xs
-      splitting-last z = record {
-        work = work-1;
-        cuts = chain-smallest (G .cuts) (c .leaf) (chain-last (G .cuts) own z (under-add G (c .work) a));
-        pins = pins-1;
-      }
+      pub splitting-last : edge m ≡ 0 → SplitAt s k xs
+      splitting-last z = split-made work-1 (chain-smallest (G .cuts) (c .leaf) (chain-last (G .cuts) own z (under-add G (c .work) a))) pins-1
 
       -- the neighbour was a leaf where its parent is cut, and else the parent was
       module _ (z : edge m ≢ 0) where
@@ -147,16 +149,6 @@ module _ {s : List ℕ} (G : Good s) where
 
           after : Chain (CutOf s) k (CutIn s ys) (depthOf (m / 2)) (edge m / 2)
           after = chain-step (G .cuts) own z both
-
-  -- the split that is promised
-  pub split-made : {k : ℕ} {bs t : List ℕ} → SplitBits s k bs → Summed (deepOf s) bs t → SplitAt s k t
-  split-made b m =
-      let g = work-good G (b .work) m (b .cuts .good) (made-on G (b .pins) m) in record {
-        good = g;
-        long = work-long G (b .work) m;
-        cuts = smallest-iff (λ n. Iff·symm (work-cuts G (b .work) m n)) (b .cuts);
-        pins = made-passed G (b .pins) m g (work-long G (b .work) m);
-      }
 
 -- the parent of the node across is nearer to node 1
 pub across-above : (m : ℕ) → 2 ≤ m → edge m ≢ 0 → depthOf (edge m / 2) < depthOf m

@@ -1,4 +1,4 @@
-// Changing the cuts of a panel that was judged good, `deep` its depth.
+// Changing the cuts of a panel that was judged good, `deep` its depth. Between two cuts the sums are right.
 use cuts::cut_place;
 use cuts::is_cut;
 use nodes::Node;
@@ -7,29 +7,30 @@ ghost use Prim.Native.Nat.{_/_, _≤_, _<_};
 ghost use Rattle.nodes.specs.Depth.{depthOf};
 ghost use Rattle.words.specs.Words.{leafBit};
 ghost use Rattle.words.specs.inner.Working.{Room};
+ghost use Rattle.sums.specs.Sums.{SumsRight};
 ghost use Rattle.cuts.specs.Cuts.{Cut};
 ghost use Rattle.cuts.specs.inner.Steps.{NodeOf};
 ghost use Rattle.pins.specs.inner.Steps.{PinRoom};
 ghost use Rattle.panel.specs.Panels.{deepOf, Good, LeafOf};
 ghost use Rattle.panel.specs.Calls.{SplitAt, Together, Unpinned, MergeAt};
-ghost use Rattle.cutting.specs.inner.Changing.{CutPut, CutUnder, Holder, SplitBits, MergeBits};
+ghost use Rattle.cutting.specs.inner.Changing.{CutPut, CutUnder, Holder};
 
-// Sets or clears the leaf bit that names n; the sums stay as they are.
+// Sets or clears the leaf bit that names n.
 fn put_cut(panel: &mut [u8], deep: usize, n: Node, v: u8)
-    requires { ⌜ Room deep (now panel) × (1 ≤ n .0) × (depthOf (n .0) < deep) × (v < 2) ⌝ }
+    requires { ⌜ Room deep (now panel) × SumsRight deep (now panel) × (1 ≤ n .0) × (depthOf (n .0) < deep) × (v < 2) ⌝ }
     ensures { λ _. ⌜ CutPut deep (now (panel .entry)) (n .0) v (now (panel .exit)) ⌝ }
 {
-    words::put_leaf_bit(panel, deep, cut_place(deep, n), v);
+    sums::put_leaf(panel, deep, cut_place(deep, n), v);
 }
 
-// Cuts node n: the new leaf, n's right child, gets the pin of l. The sums stay as they are.
+// Cuts node n: the new leaf, n's right child, gets the pin of l.
 fn cut_under(panel: &mut [u8], deep: usize, n: Node, l: Node)
-    requires { ⌜ PinRoom deep (now panel) × (1 ≤ n .0) × (depthOf (n .0) < deep) × (1 ≤ l .0) × (depthOf (l .0) ≤ deep) ⌝ }
+    requires { ⌜ PinRoom deep (now panel) × SumsRight deep (now panel) × (1 ≤ n .0) × (depthOf (n .0) < deep) × (1 ≤ l .0) × (depthOf (l .0) ≤ deep) ⌝ }
     ensures { λ _. ⌜ CutUnder deep (now (panel .entry)) (n .0) (l .0) (now (panel .exit)) ⌝ }
 {
     let v = pins::pin(panel, deep, pins::leaf_place(deep, l));
     let p = cut_place(deep, n);
-    words::put_leaf_bit(panel, deep, p, 1);
+    sums::put_leaf(panel, deep, p, 1);
     pins::put_pin(panel, deep, p, v);
 }
 
@@ -45,11 +46,12 @@ fn holder(panel: &[u8], deep: usize, n: Node) -> Node
     Node(up)
 }
 
-// Cuts leaf k and what its cut forces: the neighbour across the long side, its uncut parent, and so on up. Each new leaf gets the pin
-// of the old leaf that it lies below; a neighbour whose parent is uncut gets the parent's, before the parent is cut.
-fn cut_chain(panel: &mut [u8], deep: usize, k: Node)
+// Splits leaf k, which is not at depth D: cuts it and what its cut forces, the neighbour across the long side, its uncut parent, and so
+// on up. Each new leaf gets the pin of the old leaf that it lies below; a neighbour whose parent is uncut gets the parent's, before the
+// parent is cut.
+pub fn split_leaf(panel: &mut [u8], deep: usize, k: Node)
     requires { ⌜ Good (now panel) × (deep ≡ deepOf (now panel)) × LeafOf (now panel) (k .0) × (depthOf (k .0) < deep) ⌝ }
-    ensures { λ _. ⌜ SplitBits (now (panel .entry)) (k .0) (now (panel .exit)) ⌝ }
+    ensures { λ _. ⌜ SplitAt (now (panel .entry)) (k .0) (now (panel .exit)) ⌝ }
 {
     let mut cur = k.0;
     while !is_cut(panel, deep, Node(cur)) {
@@ -64,32 +66,16 @@ fn cut_chain(panel: &mut [u8], deep: usize, k: Node)
     }
 }
 
-// Takes back the cut of q and, where its edge neighbour is a node, that one's.
-fn take_back(panel: &mut [u8], deep: usize, q: Node)
-    requires { ⌜ Good (now panel) × (deep ≡ deepOf (now panel)) × (2 ≤ q .0) × (depthOf (q .0) < deep) ⌝ }
-    ensures { λ _. ⌜ MergeBits (now (panel .entry)) (q .0) (now (panel .exit)) ⌝ }
-{
-    put_cut(panel, deep, q, 0);
-    let e = nodes::edge_of(q);
-    if e != 0 {
-        put_cut(panel, deep, Node(e), 0);
-    }
-}
-
-// Splits leaf k, which is not at depth D.
-pub fn split_leaf(panel: &mut [u8], deep: usize, k: Node)
-    requires { ⌜ Good (now panel) × (deep ≡ deepOf (now panel)) × LeafOf (now panel) (k .0) × (depthOf (k .0) < deep) ⌝ }
-    ensures { λ _. ⌜ SplitAt (now (panel .entry)) (k .0) (now (panel .exit)) ⌝ }
-{
-    cut_chain(panel, deep, k);
-    making::make_sums(panel, deep);
-}
-
-// Merges leaf k, deeper than 1, where the leaves are there that this needs, and none of them is pinned.
+// Merges leaf k, deeper than 1, where the leaves are there that this needs, and none of them is pinned: takes back its parent's cut and,
+// where the parent has an edge neighbour, that one's.
 pub fn merge_leaves(panel: &mut [u8], deep: usize, k: Node)
     requires { ⌜ Good (now panel) × (deep ≡ deepOf (now panel)) × LeafOf (now panel) (k .0) × (1 < depthOf (k .0)) × Together (now panel) (k .0) × Unpinned (now panel) (k .0) ⌝ }
     ensures { λ _. ⌜ MergeAt (now (panel .entry)) (k .0) (now (panel .exit)) ⌝ }
 {
-    take_back(panel, deep, Node(k.0 / 2));
-    making::make_sums(panel, deep);
+    let q = k.0 / 2;
+    put_cut(panel, deep, Node(q), 0);
+    let e = nodes::edge_of(Node(q));
+    if e != 0 {
+        put_cut(panel, deep, Node(e), 0);
+    }
 }

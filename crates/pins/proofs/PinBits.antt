@@ -11,12 +11,13 @@ use Rattle.bits.specs.Bits.{bit}
 use Rattle.bits.proofs.Laws.{length-putBit, bit-put-same, bit-put-other, bit-lt, one-shl}
 use Rattle.nodes.specs.Depth.{depthOf}
 use Rattle.nodes.proofs.Depths.{pow-next, at-depth, at-below}
-use Rattle.words.specs.Words.{word, leafBit}
+use Rattle.words.specs.Words.{leafBit}
 use Rattle.words.specs.inner.Working.{putLeafBit}
+use Rattle.sums.specs.Sums.{Right}
 use Rattle.sums.specs.inner.Summed.{Summed}
+use Rattle.sums.proofs.Unique.{right-same}
 use Rattle.sums.proofs.Counts.{at-first}
 use Rattle.words.proofs.Rooms.{room-same}
-use Rattle.words.proofs.Slots.{in-panel, word-same}
 use Rattle.words.proofs.Leaves.{bit-put-leaf}
 use Rattle.cuts.specs.Cuts.{placeOf}
 use Rattle.pins.specs.Pins.{pinPlace, pinBit}
@@ -54,8 +55,8 @@ module _ (D : ℕ) (bs : List ℕ) (p v : ℕ) where
     unfolding leafBit
     leaf-put-pin q h = bit-put-pin (3 * 2 ^ D + q) (λ e. omega arith)
 
-    pub word-put-pin : (k : ℕ) → k < 2 ^ (D + 1) → word D (putPin D bs p v) k ≡ word D bs k
-    word-put-pin k l = word-same D k bs (putPin D bs p v) (λ q a b. bit-put-pin q (λ e. omega (arith, in-panel D k l, pow-add 2 D 2)))
+    pub right-put-pin : Right D bs → Right D (putPin D bs p v)
+    right-put-pin = right-same (λ q h. bit-put-pin q (λ e. omega (arith, pow-add 2 D 2)))
 
 -- ---- words are written
 

@@ -1,5 +1,5 @@
--- The leaf bit that names n is set, then its pin to that of l, which was read before.
-use mathlib.Core.Path.{ap, ap₂, _∙_}
+-- The leaf bit that names n is set under right sums, then its pin to that of l, which was read before.
+use mathlib.Core.Path.{ap, _∙_}
 use native.Mathlib.Omega.{arith}
 use borrow.Author.Needs.{needs}
 use Rattle.pins.specs.Pins.{pinBit}
@@ -14,7 +14,7 @@ put-pin-requires c κs =
     let p = b .before .before in
     let v = p .before in
     let a = v .before .before .before .before in
-    (pin-room-same (b .put-leaf-bit .kept .0) (a .pre .0), p .cut-place .ensures .high, omega (arith, v .pin .ensures, pin-lt (a .args .deep) (a .args .panel .now) (v .before .leaf-place .result)))
+    (pin-room-same (b .put-leaf .kept .0) (a .pre .0), p .cut-place .ensures .high, omega (arith, v .pin .ensures, pin-lt (a .args .deep) (a .args .panel .now) (v .before .leaf-place .result)))
 
 returns : tie.Need-returns
 returns c =
@@ -24,11 +24,11 @@ returns c =
     let v = p .before in
     let a = v .before .before .before .before in
     record {
-      place = p .cut-place .result;
-      at = p .cut-place .ensures;
+      half = b .put-leaf .last .0;
+      cut = record { place = p .cut-place .result; at = p .cut-place .ensures; put = b .put-leaf .ensures };
       put =
           w .put-pin .ensures
-          ∙ ap₂ (λ x y. putPin (a .args .deep) x (p .cut-place .result) y) (b .put-leaf-bit .ensures)
+          ∙ ap (putPin (a .args .deep) (b .put-leaf .last .0) (p .cut-place .result))
           (v .pin .ensures ∙ ap (pinBit (a .args .deep) (a .args .panel .now)) (v .before .leaf-place .ensures .0));
     }
 
