@@ -89,6 +89,17 @@ static inline struct around around(uint32_t node) {
 /* Algorithm 6, for a square. */
 struct around c_neighbours(uint32_t node) { return around(node); }
 
+/* The edge neighbour alone: the node's last digits turned over, two by two, up to the first two that differ. Where no two do but the first
+   ones of all, it lies across the diagonal, all digits but the first turned over, or there is none. A bit far up stands for no two. */
+static inline uint32_t edge(uint32_t node) {
+    uint32_t d = depth(node), differ = (uint32_t)__builtin_ctz(((node ^ node / 2) & 0x55555555) | 0x40000000);
+    if (differ + 3 <= d)
+        return node ^ (((uint32_t)4 << differ) - 1);
+    return d % 2 == 1 ? node ^ (((uint32_t)1 << d) - 1) : 0;
+}
+
+uint32_t c_edge(uint32_t node) { return edge(node); }
+
 struct triangle {
     uint32_t at[3][2];
 };
@@ -150,17 +161,68 @@ static inline int goes(const uint8_t *bytes, uint32_t deep, uint32_t node) {
     return word(bytes, deep, node) == 1 && !is_set(bytes, pin_bit(deep, node));
 }
 
-/* Algorithm 8, unless a leaf that would go is pinned, then all sums. At the border there is no pair across. */
+/* Whether the leaf, its sibling and the pair across may go. At the border there is no pair across. */
+static inline int may_merge(const uint8_t *bytes, uint32_t deep, uint32_t node, uint32_t across) {
+    return !is_set(bytes, pin_bit(deep, node)) && goes(bytes, deep, node ^ 1) &&
+           (across == 0 || (goes(bytes, deep, 2 * across) && goes(bytes, deep, 2 * across + 1)));
+}
+
+/* Algorithm 8, unless a leaf that would go is pinned, then all sums. */
 void c_merge(uint8_t *bytes, uint32_t deep, uint32_t node) {
     uint32_t across = around(node / 2).edge;
-    if (is_set(bytes, pin_bit(deep, node)) || !goes(bytes, deep, node ^ 1))
-        return;
-    if (across != 0 && (!goes(bytes, deep, 2 * across) || !goes(bytes, deep, 2 * across + 1)))
+    if (!may_merge(bytes, deep, node, across))
         return;
     merge_node(bytes, deep, node);
     if (across != 0)
         merge_node(bytes, deep, 2 * across + 1);
     c_sums(bytes, deep);
+}
+
+/* Sets or clears the leaf bit that is set where a node is cut, and adds the change to each word above it, up to node 1. A word has room for all
+   leaves below it, so that nothing is carried out of it; with what is before it in its byte it has 25 bits at most. */
+static inline void change_along(uint8_t *bytes, uint32_t deep, uint32_t node, uint32_t change) {
+    size_t k = (2 * (size_t)node + 1) << (deep - depth(node) - 1), top = (size_t)2 << deep, bits = 1;
+    for (; k > 0; k /= 2, top /= 2, bits++) {
+        size_t start = top + k * bits;
+        uint32_t x;
+        memcpy(&x, bytes + start / 8, sizeof x);
+        x += change << (start % 8);
+        memcpy(bytes + start / 8, &x, sizeof x);
+    }
+}
+
+/* Copies the pin of a leaf to the right child of a node in it. */
+static inline void pass_pin(uint8_t *bytes, uint32_t deep, uint32_t leaf, uint32_t right) {
+    if (is_set(bytes, pin_bit(deep, leaf)))
+        set(bytes, pin_bit(deep, right));
+}
+
+/* Algorithm 7 up to the first node that is cut already, with the words above each leaf bit that is set. The right child of each node that is cut
+   gets the pin of the leaf that the node is or lies right below. */
+void c_split_along(uint8_t *bytes, uint32_t deep, uint32_t node) {
+    for (;;) {
+        pass_pin(bytes, deep, node, 2 * node + 1);
+        change_along(bytes, deep, node, 1);
+        uint32_t across = edge(node), up = across / 2;
+        if (across == 0)
+            return;
+        int was_cut = is_set(bytes, leaf_bit(deep, 2 * up + 1));
+        pass_pin(bytes, deep, was_cut ? across : up, 2 * across + 1);
+        change_along(bytes, deep, across, 1);
+        if (was_cut)
+            return;
+        node = up;
+    }
+}
+
+/* Algorithm 8, unless a leaf that would go is pinned, with the words above each leaf bit that is cleared. */
+void c_merge_along(uint8_t *bytes, uint32_t deep, uint32_t node) {
+    uint32_t across = edge(node / 2);
+    if (!may_merge(bytes, deep, node, across))
+        return;
+    change_along(bytes, deep, node / 2, (uint32_t)-1);
+    if (across != 0)
+        change_along(bytes, deep, across, (uint32_t)-1);
 }
 
 /* Algorithm 13, with the node's own last digit tested. */

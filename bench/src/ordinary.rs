@@ -3,8 +3,13 @@
 //!
 //! Each is one function that is not inlined, under a name that the instruction counts find, as the proved calls are.
 
+use std::mem::MaybeUninit;
+
 /// Bytes behind the panel's last that a window may read and write back as they were.
 pub const SPARE: usize = 8;
+
+/// A split cuts at most two nodes at each depth, and none at D.
+const MOST_CUTS: usize = 34;
 
 #[inline(always)]
 fn depth(node: u32) -> u32 {
@@ -161,6 +166,21 @@ fn around(node: u32) -> Around {
     n
 }
 
+/// The edge neighbour alone: the node's last digits turned over, two by two, up to the first two that differ. Where no two do but the first
+/// ones of all, it lies across the diagonal, all digits but the first turned over, or there is none.
+#[inline(always)]
+pub fn edge(node: u32) -> u32 {
+    let d = depth(node);
+    let differ = ((node ^ (node / 2)) & 0x5555_5555).trailing_zeros();
+    if differ + 3 <= d {
+        node ^ ((4 << differ) - 1)
+    } else if d % 2 == 1 {
+        node ^ ((1 << d) - 1)
+    } else {
+        0
+    }
+}
+
 /// Algorithm 6, from (∅, ∅, 3, 2) or (∅, ∅, 2, 3), as section 5.3 has it for a square.
 #[no_mangle]
 #[inline(never)]
@@ -302,19 +322,197 @@ pub fn ordinary_split(bytes: &mut [u8], deep: u32, node: u32) {
     ordinary_sums(bytes, deep);
 }
 
-/// Algorithm 8, unless a leaf that would go is pinned, then all sums. At the border there is no pair across.
+/// Whether the leaf, its sibling and the pair across may go: all are leaves, and none is pinned. At the border there is no pair across.
+#[inline(always)]
+fn may_merge(bytes: &[u8], deep: u32, node: u32, across: u32) -> bool {
+    let free = |node| !is_set(bytes, pin_bit(deep, node));
+    let goes = |node| word(bytes, deep, node) == 1 && free(node);
+    free(node) && goes(node ^ 1) && (across == 0 || (goes(2 * across) && goes(2 * across + 1)))
+}
+
+/// Algorithm 8, unless a leaf that would go is pinned, then all sums.
 #[no_mangle]
 #[inline(never)]
 pub fn ordinary_merge(bytes: &mut [u8], deep: u32, node: u32) {
     let across = around(node / 2).edge;
-    let free = |node| !is_set(bytes, pin_bit(deep, node));
-    let goes = |node| word(bytes, deep, node) == 1 && free(node);
-    if free(node) && goes(node ^ 1) && (across == 0 || (goes(2 * across) && goes(2 * across + 1))) {
+    if may_merge(bytes, deep, node, across) {
         merge_node(bytes, deep, node);
         if across != 0 {
             merge_node(bytes, deep, 2 * across + 1);
         }
         ordinary_sums(bytes, deep);
+    }
+}
+
+/// A row of words: that of a node starts `bits` times its number behind `top`.
+#[derive(Clone, Copy)]
+struct Row {
+    top: usize,
+    bits: usize,
+}
+
+impl Row {
+    /// The row so many levels above the leaf bits.
+    #[inline(always)]
+    fn at(deep: u32, level: u32) -> Row {
+        Row { top: 2 << (deep - level), bits: 1 + level as usize }
+    }
+
+    #[inline(always)]
+    fn above(self) -> Row {
+        Row { top: self.top / 2, bits: self.bits + 1 }
+    }
+
+    /// Adds to a word. It has room for all leaves below it, so that nothing is carried out of it.
+    #[inline(always)]
+    fn add(self, bytes: &mut [u8], node: usize, change: i32) {
+        let start = self.top + node * self.bits;
+        // SAFETY: as above. A word and what is before it in its byte have 25 bits at most; the narrower the window, the less often one
+        // waits for what was written through another.
+        unsafe {
+            let at = bytes.as_mut_ptr().add(start / 8).cast::<u32>();
+            at.write_unaligned(at.read_unaligned().wrapping_add((change as u32) << (start % 8)));
+        }
+    }
+
+    /// Adds to the word of a node of this row and to each above it, up to node 1.
+    #[inline(always)]
+    fn add_along(self, bytes: &mut [u8], node: usize, change: i32) {
+        let (mut row, mut node) = (self, node);
+        while node > 0 {
+            row.add(bytes, node, change);
+            (row, node) = (row.above(), node / 2);
+        }
+    }
+}
+
+/// The node of depth D whose word is the leaf bit that is set where a node is cut.
+#[inline(always)]
+fn cut_place(deep: u32, node: u32) -> usize {
+    (2 * node as usize + 1) << (deep - depth(node) - 1)
+}
+
+/// Sets or clears the leaf bit in a place, with the words above it.
+#[inline(always)]
+fn change_along(bytes: &mut [u8], deep: u32, place: usize, change: i32) {
+    Row::at(deep, 0).add_along(bytes, place, change);
+}
+
+/// Copies the pin of a leaf to the right child of a node in it.
+#[inline(always)]
+fn pass_pin(bytes: &mut [u8], deep: u32, leaf: u32, right: u32) {
+    if is_set(bytes, pin_bit(deep, leaf)) {
+        set(bytes, pin_bit(deep, right));
+    }
+}
+
+/// Algorithm 7 up to the first node that is cut already: the place of each node to cut is handed to `cut`, and its right child gets the pin of
+/// the leaf that the node is or lies right below.
+#[inline(always)]
+fn cut_chain(bytes: &mut [u8], deep: u32, node: u32, mut cut: impl FnMut(&mut [u8], usize)) {
+    let mut node = node;
+    loop {
+        pass_pin(bytes, deep, node, 2 * node + 1);
+        cut(bytes, cut_place(deep, node));
+        let across = edge(node);
+        if across == 0 {
+            return;
+        }
+        let up = across / 2;
+        let was_cut = is_set(bytes, leaf_bit(deep, 2 * up + 1));
+        pass_pin(bytes, deep, if was_cut { across } else { up }, 2 * across + 1);
+        cut(bytes, cut_place(deep, across));
+        if was_cut {
+            return;
+        }
+        node = up;
+    }
+}
+
+/// Algorithm 7, with the words above each leaf bit that is set.
+#[no_mangle]
+#[inline(never)]
+pub fn ordinary_split_along(bytes: &mut [u8], deep: u32, node: u32) {
+    cut_chain(bytes, deep, node, |bytes, place| change_along(bytes, deep, place, 1));
+}
+
+/// Algorithm 8, unless a leaf that would go is pinned, with the words above each leaf bit that is cleared.
+#[no_mangle]
+#[inline(never)]
+pub fn ordinary_merge_along(bytes: &mut [u8], deep: u32, node: u32) {
+    let across = edge(node / 2);
+    if may_merge(bytes, deep, node, across) {
+        change_along(bytes, deep, cut_place(deep, node / 2), -1);
+        if across != 0 {
+            change_along(bytes, deep, cut_place(deep, across), -1);
+        }
+    }
+}
+
+/// Places of the leaf bits that a split or a merge changes, and the bits that the others differ in from the first.
+struct Places {
+    all: [MaybeUninit<u32>; MOST_CUTS],
+    many: usize,
+    first: usize,
+    differ: usize,
+}
+
+impl Places {
+    #[inline(always)]
+    fn none() -> Places {
+        Places { all: [MaybeUninit::uninit(); MOST_CUTS], many: 0, first: 0, differ: 0 }
+    }
+
+    #[inline(always)]
+    fn push(&mut self, place: usize) {
+        if self.many == 0 {
+            self.first = place;
+        }
+        self.differ |= self.first ^ place;
+        // SAFETY: there are no more than there is room for.
+        unsafe { self.all.get_unchecked_mut(self.many).write(place as u32) };
+        self.many += 1;
+    }
+
+    /// Changes the leaf bits: a path for each as far up as they differ, and from there one path for all. With a list of nodes at each level,
+    /// equal ones joined, up to a fifth fewer words are written, and it takes twice as long.
+    #[inline(always)]
+    fn change_in_one_walk(&self, bytes: &mut [u8], deep: u32, change: i32) {
+        let level = usize::BITS - self.differ.leading_zeros();
+        for i in 0..self.many {
+            // SAFETY: so many were written.
+            let mut node = unsafe { self.all.get_unchecked(i).assume_init() } as usize;
+            let mut row = Row::at(deep, 0);
+            for _ in 0..level {
+                row.add(bytes, node, change);
+                (row, node) = (row.above(), node / 2);
+            }
+        }
+        Row::at(deep, level).add_along(bytes, self.first >> level, change * self.many as i32);
+    }
+}
+
+/// Algorithm 7, with the words near node 1 written once for all cuts.
+#[no_mangle]
+#[inline(never)]
+pub fn ordinary_split_in_one_walk(bytes: &mut [u8], deep: u32, node: u32) {
+    let mut places = Places::none();
+    cut_chain(bytes, deep, node, |_, place| places.push(place));
+    places.change_in_one_walk(bytes, deep, 1);
+}
+
+/// Algorithm 8 likewise.
+#[no_mangle]
+#[inline(never)]
+pub fn ordinary_merge_in_one_walk(bytes: &mut [u8], deep: u32, node: u32) {
+    let across = edge(node / 2);
+    if may_merge(bytes, deep, node, across) {
+        let mut places = Places::none();
+        places.push(cut_place(deep, node / 2));
+        if across != 0 {
+            places.push(cut_place(deep, across));
+        }
+        places.change_in_one_walk(bytes, deep, -1);
     }
 }
 

@@ -11,6 +11,9 @@ pub trait Ordinary {
     fn corners(node: u32) -> Triangle;
     fn split(bytes: &mut [u8], deep: u32, node: u32);
     fn merge(bytes: &mut [u8], deep: u32, node: u32);
+    fn edge(node: u32) -> u32;
+    fn split_along(bytes: &mut [u8], deep: u32, node: u32);
+    fn merge_along(bytes: &mut [u8], deep: u32, node: u32);
 }
 
 pub struct Rust;
@@ -43,6 +46,18 @@ impl Ordinary for Rust {
     fn merge(bytes: &mut [u8], deep: u32, node: u32) {
         ordinary::ordinary_merge(bytes, deep, node);
     }
+
+    fn edge(node: u32) -> u32 {
+        ordinary::edge(node)
+    }
+
+    fn split_along(bytes: &mut [u8], deep: u32, node: u32) {
+        ordinary::ordinary_split_along(bytes, deep, node);
+    }
+
+    fn merge_along(bytes: &mut [u8], deep: u32, node: u32) {
+        ordinary::ordinary_merge_along(bytes, deep, node);
+    }
 }
 
 /// `bench/c/ordinary.c`, which the build compiles with `-O3`.
@@ -64,6 +79,9 @@ mod raw {
         pub fn c_corners(node: u32) -> Triangle;
         pub fn c_split(bytes: *mut u8, deep: u32, node: u32);
         pub fn c_merge(bytes: *mut u8, deep: u32, node: u32);
+        pub fn c_edge(node: u32) -> u32;
+        pub fn c_split_along(bytes: *mut u8, deep: u32, node: u32);
+        pub fn c_merge_along(bytes: *mut u8, deep: u32, node: u32);
     }
 }
 
@@ -95,5 +113,17 @@ impl Ordinary for C {
 
     fn merge(bytes: &mut [u8], deep: u32, node: u32) {
         unsafe { raw::c_merge(bytes.as_mut_ptr(), deep, node) }
+    }
+
+    fn edge(node: u32) -> u32 {
+        unsafe { raw::c_edge(node) }
+    }
+
+    fn split_along(bytes: &mut [u8], deep: u32, node: u32) {
+        unsafe { raw::c_split_along(bytes.as_mut_ptr(), deep, node) }
+    }
+
+    fn merge_along(bytes: &mut [u8], deep: u32, node: u32) {
+        unsafe { raw::c_merge_along(bytes.as_mut_ptr(), deep, node) }
     }
 }
