@@ -10,6 +10,7 @@
 //! Exit status: 0 done; 2 wrong arguments. It stops where the two sides differ.
 
 mod calls;
+mod copies;
 mod growth;
 mod others;
 mod ratios;

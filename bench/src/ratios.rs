@@ -25,12 +25,21 @@ struct Line {
 }
 
 /// A number that may be so great at most, and whether it is greater.
-fn held(number: String, to: bool) -> String {
+pub fn held(number: String, to: bool) -> String {
     if to {
         number
     } else {
         number + ", missed"
     }
+}
+
+/// A ratio with two decimals; below a hundredth with two digits behind the zeros.
+pub fn ratio(ratio: f64) -> String {
+    let mut decimals = 2;
+    while ratio < 0.01 && ratio * 10f64.powi(decimals - 1) < 1.0 {
+        decimals += 1;
+    }
+    format!("{ratio:.*}", decimals as usize)
 }
 
 impl Line {
@@ -45,9 +54,9 @@ impl Line {
 
     /// The ratio at the depth that the greatest is held to, and by how much the one there differs.
     fn cells_of_both(&self) -> String {
-        let (ratio, before) = (self.deepest().ratio(), self.times[1].ratio());
-        let times = ratio / before;
-        format!(" {ratio:.2} | {before:.2} | {} |", held(format!("{times:.2}"), times <= AT_MOST))
+        let (last, before) = (self.deepest().ratio(), self.times[1].ratio());
+        let times = last / before;
+        format!(" {} | {} | {} |", ratio(last), ratio(before), held(format!("{times:.2}"), times <= AT_MOST))
     }
 }
 
@@ -102,10 +111,15 @@ fn print_lines(reach: bool, lines: &[Line]) {
     println!("| what | panel |{columns} ratio at D = {DEEPEST} |{more}");
     println!("|---|---|{}---|{}", "---|".repeat(DEPTHS.len()), if reach { "---|" } else { "" });
     for line in lines {
-        let cell = |t: Times| format!(" {} / {} = {:.2} |", time(t.ours), time(t.ordinary), t.ratio());
+        let cell = |t: Times| format!(" {} / {} = {} |", time(t.ours), time(t.ordinary), ratio(t.ratio()));
         let cells = line.times.map(cell).concat();
         let reached = if reach { format!(" {} |", line.to_reach()) } else { String::new() };
-        println!("| {} | {} |{cells} **{:.2}** |{reached}", line.what, line.panel, line.deepest().ratio());
+        println!(
+            "| {} | {} |{cells} **{}** |{reached}",
+            line.what,
+            line.panel,
+            ratio(line.deepest().ratio())
+        );
     }
 }
 

@@ -8,6 +8,8 @@ use bench::panels::{Kind, Panel, Random};
 use bench::sides::Ordinary;
 use bench::timing::{least, Times};
 
+use crate::copies::{a_change, Side, COPIES};
+
 /// A row of the table for one panel: what it is, the ratio to reach, and the times where the panel has such a call.
 pub struct Row {
     pub what: &'static str,
@@ -163,30 +165,37 @@ fn nodes<S: Ordinary>(long: Duration, panel: &Panel) -> Vec<Row> {
 type Ours = fn(&mut [u8], u32, u32) -> u32;
 type Theirs = fn(&mut [u8], u32, u32);
 
-/// A split or a merge of several leaves, each from the same panel.
-fn change(
-    long: Duration,
-    what: &'static str,
-    start: &Panel,
-    asked: &[u32],
-    ours: Ours,
-    ordinary: Theirs,
-) -> Row {
-    let deep = start.deep;
-    let one_leaf = |k: &u32| {
-        let (mut one, mut other) = (start.clone(), start.clone());
-        assert_eq!(ours(one.lent_mut(), deep, *k), 0);
-        ordinary(&mut other.bytes, deep, *k);
-        assert!(one.bytes == other.bytes && one.bytes != start.bytes, "{what} of {k}: the same bytes");
-        let back = |p: &mut Panel| p.bytes.copy_from_slice(&start.bytes);
-        let do_ours = |p: &mut Panel| {
-            ours(p.lent_mut(), deep, *k);
+/// A judged split or merge of several leaves, each from the same panel.
+struct Judged<'a> {
+    start: &'a Panel,
+    asked: &'a [u32],
+    call: Ours,
+}
+
+impl Judged<'_> {
+    /// Beside an ordinary one, which changes so many copies in a run.
+    fn beside(
+        &self,
+        long: Duration,
+        what: &'static str,
+        target: f64,
+        (ordinary, copies): (Theirs, usize),
+    ) -> Row {
+        let one_leaf = |k: &u32| {
+            let ours = |p: &mut Panel| assert_eq!((self.call)(p.lent_mut(), self.start.deep, *k), 0);
+            let ordinary = |p: &mut Panel| ordinary(&mut p.bytes, self.start.deep, *k);
+            let sides: [Side; 2] = [(&ours, COPIES), (&ordinary, copies)];
+            let [ours, ordinary] = a_change(self.start, long / LEAVES as u32, sides);
+            Times { ours, ordinary }
         };
-        let do_ordinary = |p: &mut Panel| ordinary(&mut p.bytes, deep, *k);
-        least(&mut one, 1, long / LEAVES as u32, back, do_ours, do_ordinary)
-    };
-    let times: Vec<Times> = asked.iter().map(one_leaf).collect();
-    Row { what, target: Some(1.0), times: (!times.is_empty()).then(|| Times::mean(&times)) }
+        let times: Vec<Times> = self.asked.iter().map(one_leaf).collect();
+        Row { what, target: Some(target), times: (!times.is_empty()).then(|| Times::mean(&times)) }
+    }
+
+    /// Beside the one that makes all sums, and the one that goes along the path.
+    fn rows(&self, long: Duration, whats: [&'static str; 2], [all_sums, along]: [Theirs; 2]) -> [Row; 2] {
+        [self.beside(long, whats[0], 0.01, (all_sums, 1)), self.beside(long, whats[1], 1.5, (along, COPIES))]
+    }
 }
 
 /// The panel that splits are measured on: the same, or, where no leaf of it can be split, after one merge in its middle. What
@@ -222,11 +231,14 @@ fn changes<S: Ordinary>(long: Duration, panel: &Panel) -> Vec<Row> {
     let start = to_split(panel);
     let asked = start.some_leaves(LEAVES, ours::split);
     let asked = if asked.is_empty() { start.cuttable() } else { asked };
-    let merged = panel.some_leaves(LEAVES, ours::merge);
-    vec![
-        change(long, "a judged split", &start, &asked, ours::split, S::split),
-        change(long, "a judged merge", &to_merge(panel, &merged), &merged, ours::merge, S::merge),
-    ]
+    let split = Judged { start: &start, asked: &asked, call: ours::split };
+    let asked = panel.some_leaves(LEAVES, ours::merge);
+    let merge = Judged { start: &to_merge(panel, &asked), asked: &asked, call: ours::merge };
+    let of_split = ["a judged split", "a judged split, along the path"];
+    let of_merge = ["a judged merge", "a judged merge, along the path"];
+    let mut rows = Vec::from(split.rows(long, of_split, [S::split, S::split_along]));
+    rows.extend(merge.rows(long, of_merge, [S::merge, S::merge_along]));
+    rows
 }
 
 /// All rows of a panel, beside one ordinary version.
