@@ -52,20 +52,22 @@ fn count_calls(panel: &Panel, numbers: &[u32], nodes: &[u32]) {
     });
 }
 
-/// A split or a merge of each leaf, by both sides, which leave the same bytes.
+/// A split or a merge of each leaf, by ours and by both ordinary versions, which leave the same bytes.
 fn count_changes(
     start: &Panel,
     asked: &[u32],
     ours: fn(&mut [u8], u32, u32) -> u32,
-    ordinary: fn(&mut [u8], u32, u32),
+    [all_sums, along]: [fn(&mut [u8], u32, u32); 2],
 ) {
     for k in asked {
-        let (mut a, mut b) = (start.clone(), start.clone());
+        let [mut a, mut b, mut c] = [start.clone(), start.clone(), start.clone()];
         counted_part(&mut || {
             ours(a.lent_mut(), start.deep, *k);
-            ordinary(&mut b.bytes, start.deep, *k);
+            all_sums(&mut b.bytes, start.deep, *k);
+            along(&mut c.bytes, start.deep, *k);
         });
-        assert!(a.bytes == b.bytes && a.bytes != start.bytes, "{k}: the same bytes");
+        assert!(a.bytes != start.bytes, "{k}: it is changed");
+        assert!(a.bytes == b.bytes && a.bytes == c.bytes, "{k}: the same bytes");
     }
 }
 
@@ -79,10 +81,11 @@ pub fn make(deep: u32, kind: Kind) {
     let split: Vec<u32> = start.cuttable().into_iter().take(CHANGED).collect();
     let merge = panel.some_leaves(CHANGED, ours::merge);
     count_calls(&panel, &numbers, &nodes);
-    count_changes(&start, &split, ours::split, ordinary::ordinary_split);
-    count_changes(&rows::to_merge(&panel, &merge), &merge, ours::merge, ordinary::ordinary_merge);
+    count_changes(&start, &split, ours::split, [ordinary::ordinary_split, ordinary::ordinary_split_along]);
+    let start = rows::to_merge(&panel, &merge);
+    count_changes(&start, &merge, ours::merge, [ordinary::ordinary_merge, ordinary::ordinary_merge_along]);
 
-    // A split or merge makes the ordinary sums once more.
+    // A split or merge makes the ordinary sums once more, but for those along the path.
     let sums = 1 + split.len() + merge.len();
     let (n, i) = (nodes.len(), numbers.len());
     println!("testing all sums|measure_all_right|1|ordinary_sums|{sums}|0.15");
@@ -101,7 +104,8 @@ pub fn make(deep: u32, kind: Kind) {
     for (what, symbol, asked) in [("split", "split", &split), ("merge", "merge", &merge)] {
         if !asked.is_empty() {
             let n = asked.len();
-            println!("a judged {what}|measure_{symbol}|{n}|ordinary_{symbol}|{n}|1.00");
+            println!("a judged {what}|measure_{symbol}|{n}|ordinary_{symbol}|{n}|0.01");
+            println!("a judged {what}, along the path|measure_{symbol}|{n}|ordinary_{symbol}_along|{n}|1.50");
         }
     }
 }
