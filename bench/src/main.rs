@@ -3,7 +3,8 @@
 //!     bench ratios [--quick]    the table of docs/SPEED.md, then those of times and ratios; both sides are checked to compute the same
 //!     bench growth [--quick]    judging and making sums, in nanoseconds a byte, at every depth
 //!     bench rounds [--quick]    a round of splits and merges beside as many single calls and ordinary versions, in nanoseconds a record
-//!     bench scanner [--quick]   the scanner on two request files beside two other programs; bench/native builds it
+//!     bench paths [--quick]     splits and merges beside ordinary versions that go along the path, and the cost of a split by depth and chain
+//!     bench scanner [--quick]   the scanner on two request files beside three other programs; bench/native builds it
 //!     bench records             writes those files to target/bench/
 //!     bench calls KIND DEPTH    the calls whose instructions bench/counts counts; KIND is fresh, adaptive or full
 //!
@@ -13,6 +14,7 @@ mod calls;
 mod copies;
 mod growth;
 mod others;
+mod paths;
 mod ratios;
 mod records;
 mod rounds;
@@ -34,6 +36,7 @@ fn main() -> ExitCode {
         ["ratios"] | ["ratios", "--quick"] => ratios::print(long),
         ["growth"] | ["growth", "--quick"] => growth::print(long),
         ["rounds"] | ["rounds", "--quick"] => rounds::print(if quick { 1 } else { 4 }, 10 * long),
+        ["paths"] | ["paths", "--quick"] => paths::print(if quick { 1 } else { 4 }, long),
         ["scanner"] | ["scanner", "--quick"] => {
             scanner::print(&built(), &target(), if quick { 1 } else { 3 })
         }
@@ -67,7 +70,7 @@ fn target() -> PathBuf {
 
 fn wrong() -> ExitCode {
     eprintln!(
-        "bench ratios|growth|rounds|scanner [--quick], bench records, or bench calls fresh|adaptive|full DEPTH, \
+        "bench ratios|growth|rounds|paths|scanner [--quick], bench records, or bench calls fresh|adaptive|full DEPTH, \
          which is 6 to {DEEPEST}"
     );
     ExitCode::from(2)

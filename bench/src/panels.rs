@@ -58,6 +58,13 @@ impl Panel {
         panel.good()
     }
 
+    /// Refined towards one corner of the square as deep as can be, no leaf pinned: the farther from it, the coarser are the leaves.
+    pub fn cornered(deep: u32) -> Panel {
+        let mut panel = Panel::new(deep, Kind::Fresh);
+        panel.refine(|corners| corners.contains(&[0, 0]));
+        panel.good()
+    }
+
     /// The panel, judged.
     fn good(self) -> Panel {
         assert_eq!(ours::judge(self.lent()), 0, "the panel is good");

@@ -54,14 +54,29 @@ impl Requests {
         }
     }
 
+    /// A leaf that looks random.
+    fn some_leaf(&self, random: &mut Random) -> u32 {
+        let number = random.below(self.leaves() as usize) as u32;
+        ours::leaf(self.panel.lent(), self.panel.deep, number)
+    }
+
     /// Fills up with leaves that look random, five splits to a merge. Where all leaves are at depth D only merges are allowed, and then
     /// splits again, so that it comes to an end at every depth.
     fn ask_random(&mut self) {
         let mut random = Random(5);
         while self.count() < MOST {
-            let number = random.below(self.leaves() as usize) as u32;
-            let leaf = ours::leaf(self.panel.lent(), self.panel.deep, number);
+            let leaf = self.some_leaf(&mut random);
             self.ask(if random.below(6) == 0 { MERGE } else { SPLIT }, leaf);
+        }
+    }
+
+    /// Fills up with splits alone or merges alone of leaves that look random, as long as there are others than `last` leaves: those of a
+    /// fully cut panel, or of a fresh one.
+    fn ask_alone(&mut self, kind: u8, last: u32, seed: u64) {
+        let mut random = Random(seed);
+        while self.count() < MOST && self.leaves() != last {
+            let leaf = self.some_leaf(&mut random);
+            self.ask(kind, leaf);
         }
     }
 
@@ -115,6 +130,20 @@ pub fn random(deep: u32) -> Requests {
 pub fn round(deep: u32) -> Requests {
     let mut requests = Requests::none(deep);
     requests.ask_random();
+    requests
+}
+
+/// Splits alone of leaves that look random, from a fresh panel, as many as are allowed; others for each seed.
+pub fn splits(deep: u32, seed: u64) -> Requests {
+    let mut requests = Requests::none(deep);
+    requests.ask_alone(SPLIT, 1 << deep, seed);
+    requests
+}
+
+/// Merges alone of leaves that look random, from a panel without pins, as many as are allowed.
+pub fn merges(start: &Panel, seed: u64) -> Requests {
+    let mut requests = Requests { panel: start.clone(), bytes: Vec::new() };
+    requests.ask_alone(MERGE, 2, seed);
     requests
 }
 

@@ -2,59 +2,106 @@
 
 use std::time::Duration;
 
-use bench::ours;
 use bench::panels::{Kind, Panel, DEEPEST};
 use bench::sides::{Ordinary, Rust, C};
 use bench::timing::shortest;
+use bench::{ordinary, ours};
 
-use crate::records::{self, Change};
+use crate::records::{self, Change, Requests};
 
 const DEPTHS: [u32; 3] = [10, 14, DEEPEST];
 
+/// A panel and records for it.
+pub struct Round {
+    start: Panel,
+    requests: Requests,
+    changes: Vec<Change>,
+}
+
+impl Round {
+    pub fn new(start: Panel, requests: Requests) -> Round {
+        let changes = requests.changes();
+        Round { start, requests, changes }
+    }
+
+    pub fn count(&self) -> usize {
+        self.changes.len()
+    }
+
+    /// The panel that is left.
+    pub fn left(&self) -> &Panel {
+        self.requests.panel()
+    }
+
+    /// How many leaves come or go.
+    pub fn cuts(&self) -> u32 {
+        ordinary::count(&self.start.bytes, self.start.deep).abs_diff(self.requests.leaves())
+    }
+}
+
 /// What a side works on: the panel, and where a round writes its answers.
-struct Work {
+pub struct Work {
     panel: Panel,
     answers: Vec<u8>,
 }
 
-fn by_single_calls(panel: &mut Panel, changes: &[Change]) {
-    for Change { split, leaf } in changes {
+/// All records in one call.
+pub fn by_round(work: &mut Work, round: &Round) {
+    work.answers.fill(0xFF);
+    assert_eq!(ours::round(work.panel.lent_mut(), round.requests.bytes(), &mut work.answers), 0);
+}
+
+fn by_single_calls(work: &mut Work, round: &Round) {
+    for Change { split, leaf } in &round.changes {
         let call = if *split { ours::call_split } else { ours::call_merge };
-        assert_eq!(call(panel.lent_mut(), *leaf), 0, "{leaf}");
+        assert_eq!(call(work.panel.lent_mut(), *leaf), 0, "{leaf}");
     }
 }
 
-fn by_ordinary<S: Ordinary>(panel: &mut Panel, changes: &[Change]) {
-    for Change { split, leaf } in changes {
-        let change = if *split { S::split } else { S::merge };
-        change(&mut panel.bytes, panel.deep, *leaf);
+/// All records one by one, by an ordinary split and an ordinary merge.
+#[inline(always)]
+pub fn by_ordinary(work: &mut Work, round: &Round, [split, merge]: [fn(&mut [u8], u32, u32); 2]) {
+    for change in &round.changes {
+        let way = if change.split { split } else { merge };
+        way(&mut work.panel.bytes, work.panel.deep, change.leaf);
     }
 }
 
-/// Measures and prints the row of a depth: all sides leave the bytes that judged splits and merges leave.
+/// What does the records of a round.
+pub type Side<'a> = &'a dyn Fn(&mut Work, &Round);
+
+/// Nanoseconds a record of each side; it does all rounds in a run, and leaves the bytes that judged splits and merges leave. Each has so many
+/// turns at least, and all so much time.
+pub fn a_record<const N: usize>(rounds: &[Round], often: (usize, Duration), sides: [Side; N]) -> [f64; N] {
+    let work = |round: &Round| Work { panel: round.start.clone(), answers: vec![0; round.count()] };
+    let setup = |works: &mut Vec<Work>| {
+        for (work, round) in works.iter_mut().zip(rounds) {
+            work.panel.bytes.copy_from_slice(&round.start.bytes);
+            work.answers.fill(0);
+        }
+    };
+    let check = |works: &Vec<Work>| {
+        for (work, round) in works.iter().zip(rounds) {
+            assert!(work.panel.bytes == round.left().bytes, "D = {}: the same bytes", work.panel.deep);
+            assert!(work.answers.iter().all(|answer| *answer == 0), "every record is done");
+        }
+    };
+    let runs = sides.map(|side| {
+        move |works: &mut Vec<Work>| works.iter_mut().zip(rounds).for_each(|(work, round)| side(work, round))
+    });
+    let runs = runs.each_ref().map(|run| run as &dyn Fn(&mut Vec<Work>));
+    let many: usize = rounds.iter().map(Round::count).sum();
+    shortest(&mut rounds.iter().map(work).collect(), often, setup, runs, check).map(|ns| ns / many as f64)
+}
+
+/// Measures and prints the row of a depth.
 fn print_row(deep: u32, turns: usize, long: Duration) {
-    let requests = records::round(deep);
-    let (records, changes, many) = (requests.bytes(), requests.changes(), requests.count());
-    let fresh = Panel::new(deep, Kind::Fresh);
-    let mut work = Work { panel: fresh.clone(), answers: vec![0; many] };
-    let setup = |work: &mut Work| {
-        work.panel.bytes.copy_from_slice(&fresh.bytes);
-        work.answers.fill(0);
-    };
-    let check = |work: &Work| {
-        assert!(work.panel.bytes == requests.panel().bytes, "D = {deep}: all sides leave the same bytes");
-        assert!(work.answers.iter().all(|answer| *answer == 0), "D = {deep}: every record is done");
-    };
-    let round = |work: &mut Work| {
-        work.answers.fill(0xFF);
-        assert_eq!(ours::round(work.panel.lent_mut(), records, &mut work.answers), 0);
-    };
-    let single = |work: &mut Work| by_single_calls(&mut work.panel, &changes);
-    let rust = |work: &mut Work| by_ordinary::<Rust>(&mut work.panel, &changes);
-    let c = |work: &mut Work| by_ordinary::<C>(&mut work.panel, &changes);
-    let times = shortest(&mut work, (turns, long), setup, [&round, &single, &rust, &c], check);
-    let [round, single, rust, c] = times.map(|ns| ns / many as f64);
-    let splits = changes.iter().filter(|change| change.split).count();
+    let round = [Round::new(Panel::new(deep, Kind::Fresh), records::round(deep))];
+    let rust: Side = &|work, round| by_ordinary(work, round, [Rust::split, Rust::merge]);
+    let c: Side = &|work, round| by_ordinary(work, round, [C::split, C::merge]);
+    let [Round { requests, changes, .. }] = &round;
+    let (many, splits) = (changes.len(), changes.iter().filter(|change| change.split).count());
+    let [round, single, rust, c] = a_record(&round, (turns, long), [&by_round, &by_single_calls, rust, c]);
     println!(
         "| {deep} | {splits}, {} | {} | {round:.0} | {single:.0} | {rust:.0} | {c:.0} | **{:.2}** | {:.3} | {:.3} |",
         many - splits,
