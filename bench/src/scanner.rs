@@ -1,4 +1,4 @@
-//! The scanner program on two request files, beside the second program and the unchecked ordinary one.
+//! The scanner program on two request files, beside the second program and the unchecked ordinary ones.
 
 use std::fs::File;
 use std::path::{Path, PathBuf};
@@ -128,6 +128,12 @@ pub fn print(built: &Path, folder: &Path, runs: usize) {
     let programs = [
         program("the scanner", folder.join("scanner"), &[][..], false),
         program("ordinary Rust, unchecked", built.join("ordinary_scanner"), &[], false),
+        program(
+            "ordinary Rust, unchecked, along the path",
+            built.join("ordinary_scanner"),
+            &["along"],
+            false,
+        ),
         program("the second program", built.join("second"), &["run"], true),
     ];
     let inputs = records::write(folder);
