@@ -1,81 +1,81 @@
 -- The window holds the field, so storing the window with so much more and less at the field's lowest digit is putting the field so changed.
+-- Where it would end behind the bytes, the field is read and put.
 use mathlib.Core.Path.{_≡_, sym, ap, ap₂, _∙_}
 use Prim.Native.Nat.{ℕ, _+_, _-_, _*_, _/_, _%_, _^_, _≤_, _<_}
 use native.Mathlib.Omega.{arith}
+use lib.Pow.{pow-mono}
 use Rattle.bits.specs.Bits.{field}
-use Rattle.bits.specs.inner.Puts.{putLittle}
+use Rattle.bits.specs.inner.Puts.{putField, putLittle}
 use Rattle.bits.proofs.Windows.{withField, field-window, put-window, Moved, moved}
 use borrow.Author.Needs.{needs}
 use Rattle.fields.proofs.move_field.Statement.{statement}
 use Rattle.fields.proofs.move_field.Tie as tie
 
--- the window holds the field
-here : (c : tie.After-place) → let a = c .before .before .args in let i = c .place .result in (8 * i ≤ a .s) × (a .s + a .w ≤ 8 * i + 8 * 4) × (a .s - 8 * i < 32) × (a .s - 8 * i + a .w ≤ 32)
-here c =
-    let h = c .place .ensures .high (c .before .before .args .w) (omega arith) (omega arith) in
-    (c .place .ensures .low, omega arith, omega arith, omega (arith, c .place .ensures .low))
-
--- the number in it
+-- the number in the field
 got : (c : tie.After-get-four) → let a = c .before .before .before .before .args in
-    field (a .bytes .now) (a .s) (a .w) ≡ c .get-four .result / 2 ^ (a .s - 8 * c .before .before .place .result) % 2 ^ a .w
+    field (a .bytes .now) (a .s) (a .w) ≡ c .get-four .result / 2 ^ (a .s - 8 * (a .s / 8)) % 2 ^ a .w
 got c =
-    let p = c .before .before in
-    let a = p .before .before .args in
-    let h = here p in
-    field-window (a .bytes .now) (λ j. p .before .slice-known .given j .fits) (a .s) (a .w) (p .place .result) 4 (h .0) (h .1)
-    ∙ ap (λ (x : ℕ). x / 2 ^ (a .s - 8 * p .place .result) % 2 ^ a .w) (sym (c .get-four .ensures))
+    let k = c .before .before .before in
+    let a = k .before .args in
+    field-window (a .bytes .now) (λ j. k .slice-known .given j .fits) (a .s) (a .w) (a .s / 8) 4 (omega arith) (omega arith)
+    ∙ ap (λ (x : ℕ). x / 2 ^ (a .s - 8 * (a .s / 8)) % 2 ^ a .w) (sym (c .get-four .ensures))
 
 -- and what becomes of it
-change : (c : tie.After-get-four) → let a = c .before .before .before .before .args in
-    Moved (c .get-four .result) (a .s - 8 * c .before .before .place .result) (a .w) (a .up) (a .down)
+change : (c : tie.After-get-four) → let a = c .before .before .before .before .args in Moved (c .get-four .result) (a .s - 8 * (a .s / 8)) (a .w) (a .up) (a .down)
 change c =
-    let p = c .before .before in
-    let s = p .before .before in
-    let h = here p in
-    moved (c .get-four .result) (s .args .s - 8 * p .place .result) (s .args .w) (s .args .up) (s .args .down) (c .get-four .ok) (h .2) (h .3) (omega (arith, got c, s .pre .4)) (omega (arith, got c, s .pre .5))
+    let s = c .before .before .before .before in
+    moved (c .get-four .result) (s .args .s - 8 * (s .args .s / 8)) (s .args .w) (s .args .up) (s .args .down) (c .get-four .ok) (omega arith) (omega arith) (omega (arith, got c, s .pre .4)) (omega (arith, got c, s .pre .5))
 
-cast-store-four : tie.Need-cast-store-four
-cast-store-four c = omega (arith, here (c .before .before .before))
+add-put-field : tie.Need-add-put-field
+add-put-field c =
+    let f = c .before in
+    let a = f .before .before .before .before in
+    omega (arith, f .get-field .ensures, a .pre .4, pow-mono {i = a .args .w} {j = 25} (omega arith))
 
-shl-store-four : tie.Need-shl-store-four
-shl-store-four c = omega (arith, here (c .before .before .before))
-
-add-store-four : tie.Need-add-store-four
-add-store-four c = record { fits = change (c .before) .fits }
-
-cast-store-four-2 : tie.Need-cast-store-four-2
-cast-store-four-2 c = omega (arith, here (c .before .before .before))
-
-shl-store-four-2 : tie.Need-shl-store-four-2
-shl-store-four-2 c = omega (arith, here (c .before .before .before))
+put-field-requires : tie.Need-put-field-requires
+put-field-requires c κs =
+    let f = c .before in
+    let a = f .before .before .before .before in
+    (omega arith, omega arith, omega arith, omega arith, omega (arith, f .get-field .ensures, a .pre .4))
 
 returns : tie.Need-returns
 returns c =
+    let p = c .before .before in
+    let f = p .before .before in
+    let a = f .before .before .before .before .args in
+    p .put-field .ensures ∙ ap (λ (x : ℕ). putField (a .bytes .now) (a .s) (a .w) (x + a .up - a .down)) (f .get-field .ensures)
+
+returns-2 : tie.Need-returns-2
+returns-2 c =
     let w = c .before .before .before .before in
-    let p = w .before .before in
-    let a = p .before .before .args in
-    let i = p .place .result in
-    let h = here p in
+    let k = w .before .before .before in
+    let a = k .before .args in
     let v = field (a .bytes .now) (a .s) (a .w) + a .up - a .down in
     c .before .before .store-four .ensures
-    ∙ ap (putLittle (a .bytes .now) i 4)
-    (change w .is ∙ ap₂ (λ (x y : ℕ). withField x (a .s - 8 * i) (a .w) (y + a .up - a .down)) (w .get-four .ensures) (sym (got w)))
-    ∙ put-window (a .bytes .now) (λ j. p .before .slice-known .given j .fits) (a .s) (a .w) v i 4 (omega arith) (h .0) (h .1) (omega arith)
+    ∙ ap (putLittle (a .bytes .now) (a .s / 8) 4)
+    (change w .is ∙ ap₂ (λ (x y : ℕ). withField x (a .s - 8 * (a .s / 8)) (a .w) (y + a .up - a .down)) (w .get-four .ensures) (sym (got w)))
+    ∙ put-window (a .bytes .now) (λ j. k .slice-known .given j .fits) (a .s) (a .w) v (a .s / 8) 4 (omega arith) (omega arith) (omega arith) (omega arith)
 
 pub move-field-spec : {M : Type 1} → statement M
 move-field-spec =
     tie.close
     (tie.spec
+    (λ c. search needs)
     (λ c κs. search needs)
+    add-put-field
+    (λ c. omega (arith, c .before .get-field .ensures, c .before .before .before .before .before .pre .5))
+    put-field-requires
+    (λ c. search needs)
+    returns
     (λ c. search needs)
     (λ c. search needs)
     (λ c κs. search needs)
-    cast-store-four
-    shl-store-four
-    add-store-four
-    cast-store-four-2
-    shl-store-four-2
+    (λ c. omega arith)
+    (λ c. omega arith)
+    (λ c. record { fits = change (c .before) .fits })
+    (λ c. omega arith)
+    (λ c. omega arith)
     (λ c. change (c .before) .takes)
     (λ c κs. search needs)
     (λ c. search needs)
-    returns)
+    returns-2)
