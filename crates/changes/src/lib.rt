@@ -1,11 +1,10 @@
 // Splitting and merging in a panel that was judged good, `deep` its depth. These are no public calls: a caller judges first.
 use answers::Answer;
-use answers::Numbered;
 use answers::Refusal;
 use cutting::merge_leaves;
 use cutting::split_leaf;
 use leaves::is_leaf;
-use leaves::number_of;
+use leaves::tested;
 use nodes::Node;
 use pinning::unpinned;
 ghost use mathlib.Core.Path.{_≡_};
@@ -22,8 +21,8 @@ pub fn split(panel: &mut [u8], deep: usize, k: Node) -> Answer
     ensures { λ r. ⌜ Split (now (panel .entry)) (k .0) (answerNumber r) (now (panel .exit)) ⌝ }
     ensures { λ r. ⌜ Ancestor (now (panel .entry)) (k .0) (answerNumber r) (answerAncestor r) ⌝ }
 {
-    let number = number_of(panel, deep, k);
-    if let Numbered::No(e) = number {
+    let leaf = tested(panel, deep, k);
+    if let Answer::No(e) = leaf {
         return Answer::No(e);
     }
     if nodes::depth(k) as usize >= deep {
@@ -58,8 +57,8 @@ pub fn merge(panel: &mut [u8], deep: usize, k: Node) -> Answer
     ensures { λ r. ⌜ Merge (now (panel .entry)) (k .0) (answerNumber r) (now (panel .exit)) ⌝ }
     ensures { λ r. ⌜ Ancestor (now (panel .entry)) (k .0) (answerNumber r) (answerAncestor r) ⌝ }
 {
-    let number = number_of(panel, deep, k);
-    if let Numbered::No(e) = number {
+    let leaf = tested(panel, deep, k);
+    if let Answer::No(e) = leaf {
         return Answer::No(e);
     }
     if nodes::depth(k) <= 1 {

@@ -1,5 +1,5 @@
 -- One step down: the node's place says where its children's words start, and the numbers picked are those of one child.
-use mathlib.Core.Path.{_≡_, refl, sym, ap, ap₂, _∙_, subst⁻¹}
+use mathlib.Core.Path.{_≡_, refl, sym, ap, ap₂, _∙_, subst, subst⁻¹}
 use mathlib.Core.Bool.{Bool, true, false}
 use mathlib.Core.List.{List}
 use Prim.Native.Nat.{ℕ, suc, _+_, _-_, _*_, _/_, _%_, _^_, _≤_, _<_}
@@ -10,17 +10,19 @@ use lib.Pow.{pow-mono, pow-pos}
 use Rattle.bits.specs.Bits.{field}
 use Rattle.bits.proofs.Laws.{field-lt}
 use Rattle.nodes.specs.Depth.{depthOf}
-use Rattle.nodes.proofs.Depths.{pow-next, at-root, depth-is, depth-left, depth-right, below-depth}
+use Rattle.tables.specs.inner.Says.{Says}
+use Rattle.nodes.proofs.Depths.{pow-next, at-root, at-depth, depth-is, depth-left, depth-right, depth-half, below-depth}
 use Rattle.words.specs.Words.{width, word, leafBit}
 use Rattle.words.specs.inner.Working.{Room}
 use Rattle.words.proofs.Slots.{from, wide, packed, in-panel}
 use Rattle.panel.specs.Panels.{deepOf, CutOf, Good, LeafOf, numberIn, leafCount}
-use Rattle.descents.specs.inner.Descents.{OnWay, Spot, Picked}
+use Rattle.descents.specs.inner.Descents.{OnWay, Reached, Spot, Picked}
 use Rattle.words.proofs.Rooms.{room-bytes}
 use Rattle.panel.proofs.Lengths.{fits-small, good-room}
+use Rattle.cuts.specs.Cuts.{Cut}
 use Rattle.cuts.proofs.Places.{cut-depth}
 use Rattle.cuts.proofs.Covering.{ancestor-is}
-use Rattle.cuts.proofs.Descent.{reached-left, reached-right}
+use Rattle.cuts.proofs.Descent.{reached-left, reached-right, reached-leaf}
 use Rattle.panel.proofs.GoodPanels.{good-bits, cut-word, reached-word, leaf-word-one, number-root, number-left, number-right}
 
 -- where the words of a node's children stand
@@ -174,12 +176,42 @@ pub fewer : {c : Bool} {w l i v e : ℕ} → (c ≡ true → i < l) → (c ≡ f
 fewer {c = true} t f h rest past = (omega (arith, past .yes refl), omega (arith, t refl, rest .yes refl, past .yes refl))
 fewer {c = false} t f h rest past = (omega (arith, f refl, past .no refl), omega (arith, f refl, rest .no refl, past .no refl))
 
+-- the node above that on the way to n
+half : (n left : ℕ) → 1 ≤ left → n / 2 ^ left ≡ n / 2 ^ (left - 1) / 2
+half n left o = ap (λ x. n / 2 ^ x) (let e : left ≡ suc (left - 1) = omega arith in e) ∙ sym (ancestor-is (suc (left - 1)) n) ∙ ap (λ x. x / 2) (ancestor-is (left - 1) n)
+
 -- the node on the way to n, one level down
 pub next : (n left : ℕ) (c : Bool) → 1 ≤ left → (c ≡ true → n / 2 ^ (left - 1) % 2 ≡ 0) → (c ≡ false → n / 2 ^ (left - 1) % 2 ≡ 0 → ⊥) →
     Picked c (2 * (n / 2 ^ left)) (2 * (n / 2 ^ left) + 1) (n / 2 ^ (left - 1))
-next n left c o t f =
-    let half : n / 2 ^ left ≡ n / 2 ^ (left - 1) / 2 = ap (λ x. n / 2 ^ x) (let e : left ≡ suc (left - 1) = omega arith in e) ∙ sym (ancestor-is (suc (left - 1)) n) ∙ ap (λ x. x / 2) (ancestor-is (left - 1) n) in
-    record { yes = λ e. omega (arith, half, t e); no = λ e. omega (arith, half, f e) }
+next n left c o t f = record { yes = λ e. omega (arith, half n left o, t e); no = λ e. omega (arith, half n left o, f e) }
+
+-- ---- by cuts alone
+
+-- a test of a cut, told by an equal depth
+pub says-cut : (s : List ℕ) {D k : ℕ} {b : Bool} → D ≡ deepOf s → Says (Cut D (leafBit D s) k) b → Says (CutOf s k) b
+says-cut s {D} {k} {b} e t = subst (λ x. Says (Cut x (leafBit x s) k) b) e t
+
+module _ {s : List ℕ} (G : Good s) (left n : ℕ) (R : Reached s left (n / 2 ^ left)) where
+  -- a node that is reached and not cut is a leaf
+  pub stop-uncut : (CutOf s (n / 2 ^ left) → ⊥) → OnWay s n (n / 2 ^ left) (numberIn s (n / 2 ^ left))
+  stop-uncut z = record {
+    leaf = reached-leaf (deepOf s) (leafBit (deepOf s) s) (good-bits s G) (depthOf (n / 2 ^ left)) left (n / 2 ^ left) (at-depth (R .low)) (R .levels) (R .reached) z;
+    number = refl;
+    over = ap (λ x. n / 2 ^ x) (let f : deepOf s - depthOf (n / 2 ^ left) ≡ left = omega (arith, R .levels) in f);
+  }
+
+  -- no node of depth D is cut
+  pub stop-deep : left ≡ 0 → OnWay s n (n / 2 ^ left) (numberIn s (n / 2 ^ left))
+  stop-deep e =
+      stop-uncut (λ c. omega (arith, cut-depth (deepOf s) (leafBit (deepOf s) s) (good-bits s G .deep) (n / 2 ^ left) c, R .levels))
+
+  -- below one that is cut its child on the way is reached
+  pub go-down : 1 ≤ left → CutOf s (n / 2 ^ left) → Reached s (left - 1) (n / 2 ^ (left - 1))
+  go-down o c =
+      let m : ℕ = n / 2 ^ (left - 1) in
+      let h : n / 2 ^ left ≡ m / 2 = half n left o in
+      let l : 2 ≤ m = omega (arith, R .low) in
+      record { low = omega arith; levels = omega (arith, depth-half m l, ap depthOf h, R .levels); reached = λ _. subst (CutOf s) h c }
 
 -- ---- node 1, in a panel of depth D
 

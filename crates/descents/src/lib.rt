@@ -1,13 +1,14 @@
 // Going down from node 1 of a good panel to a leaf. Each step is the last thing that a call does, the panel behind one reference: the
 // compiler makes a loop of it, which needs no stack. What comes back is a plain number: a struct comes back through memory, level by level,
 // and no loop can be made of that.
+use cuts::is_cut_above;
 use nodes::LeafNumber;
 use nodes::Node;
 ghost use mathlib.Core.Path.{_≡_};
 ghost use Prim.Native.Nat.{_+_, _/_, _^_, _<_};
-ghost use Rattle.panel.specs.Panels.{Good, numberIn};
+ghost use Rattle.panel.specs.Panels.{deepOf, Good, numberIn};
 ghost use Rattle.panel.specs.Calls.{LeafNumbered};
-ghost use Rattle.descents.specs.inner.Descents.{OnWay, Picked, Spot};
+ghost use Rattle.descents.specs.inner.Descents.{OnWay, Picked, Reached, Spot};
 
 // One of two numbers: a where c holds, else b. A step down picks each number of the child so: no jump to guess is left.
 fn pick(c: bool, a: u32, b: u32) -> u32
@@ -73,4 +74,20 @@ pub fn leaf_over(
     let past = pick(to_left, 0, l);
     let passed = before.0 + past;
     leaf_over(panel, left - 1, at, leaves, LeafNumber(passed), n, number)
+}
+
+// The same leaf without its number, by cuts alone: the first node on the way to n that is not cut. The way has come to the node `left` levels
+// above n.
+pub fn uncut_over(panel: &&[u8], deep: usize, left: usize, n: Node) -> u32
+    requires { ⌜ Good (now (now panel)) × (deep ≡ deepOf (now (now panel))) × Reached (now (now panel)) left (n .0 / 2 ^ left) ⌝ }
+    ensures { λ r. ⌜ OnWay (now (now (panel .entry))) (n .0) r (numberIn (now (now (panel .entry))) r) ⌝ }
+{
+    let k = n.0 >> left;
+    if left == 0 {
+        return k;
+    }
+    if !is_cut_above(*panel, deep, Node(k), left - 1) {
+        return k;
+    }
+    uncut_over(panel, deep, left - 1, n)
 }

@@ -1,7 +1,7 @@
 -- Of two nodes on one way the one with the lesser number is an ancestor of the other. So a leaf on the way to the first node of depth D below k lies
 -- above k, or below it, and then k is cut, or is k.
-use mathlib.Core.Path.{_≡_, sym, ap, ap₂, _∙_, subst, subst⁻¹}
-use mathlib.Core.List.{List}
+use mathlib.Core.Path.{_≡_, refl, sym, ap, ap₂, _∙_, subst, subst⁻¹}
+use mathlib.Core.List.{List, []}
 use mathlib.Core.Bool.{Bool}
 use Prim.Native.Nat.{ℕ, _+_, _-_, _*_, _/_, _%_, _^_, _≤_, _<_}
 use native.Mathlib.Decide.{decLe, decLt}
@@ -9,17 +9,20 @@ use native.Mathlib.Omega.{arith}
 use lib.Pow.{shr-shr, shr-le}
 use Rattle.nodes.specs.Depth.{depthOf}
 use Rattle.tables.specs.inner.Says.{Says}
-use Rattle.nodes.proofs.Depths.{At, at-below, at-depth, depth-le, ancestor, at-ancestor}
+use Rattle.tables.specs.Table.{Answers}
+use Rattle.nodes.proofs.Depths.{At, at-root, at-below, at-depth, depth-is, depth-le, ancestor, at-ancestor}
 use Rattle.nodes.proofs.Limits.{node-small}
 use Rattle.cuts.specs.Cuts.{LeafAbove}
 use Rattle.panel.specs.Panels.{deepOf, CutOf, Good, InRange, LeafOf, numberIn, leafCount}
-use Rattle.descents.specs.inner.Descents.{OnWay, Spot}
-use Rattle.leaves.specs.inner.Ways.{OnFirstWay, Ranged}
+use Rattle.panel.specs.Calls.{leafRows, Ancestor}
+use Rattle.descents.specs.inner.Descents.{OnWay, Reached, Spot}
+use Rattle.leaves.specs.inner.Ways.{OnFirstWay, Ranged, Stopped}
 use Rattle.sums.proofs.Counts.{at-first}
 use Rattle.cuts.proofs.CutBits.{ancestor-first}
 use Rattle.cuts.proofs.Covering.{ancestor-is, up-all, is-above, above-no-leaf}
 use Rattle.panel.proofs.Lengths.{fits-small}
 use Rattle.panel.proofs.GoodPanels.{number-root}
+use Rattle.panel.proofs.LeafRows.{is-cut, below-leaf, is-leaf}
 use Rattle.descents.proofs.Downward.{root-spot}
 
 -- on the way up from n, the node j levels up is that many above the one i levels up
@@ -93,6 +96,9 @@ module _ (s : List ℕ) (G : Good s) (k : ℕ) (R : InRange s k) where
         let r : At 0 (ancestor D n) = at-ancestor D 0 (subst (λ x. At x n) (let q : deepOf s ≡ 0 + D = omega arith in q) (subst⁻¹ (At (deepOf s)) (h ∙ shifted) node-at)) in
         omega (arith, ancestor-is D n)
 
+    pub start-near : {n : ℕ} → n ≡ k * 2 ^ (D - d) % 2 ^ 32 → Reached s D (n / 2 ^ D)
+    start-near h = subst⁻¹ (Reached s D) (root h) (record { low = omega arith; levels = omega (arith, depth-is at-root); reached = λ x. absurd (omega arith) })
+
     pub start-toward : {n w : ℕ} → n ≡ k * 2 ^ (D - d) % 2 ^ 32 → w ≡ leafCount s → Spot s D (D + 3) (n / 2 ^ D) w × (0 ≡ numberIn s (n / 2 ^ D))
     start-toward {n} {w} h x = (subst⁻¹ (λ y. Spot s D (D + 3) y w) (root h) (root-spot s G e x), sym (ap (numberIn s) (root h) ∙ number-root s G))
 
@@ -108,3 +114,17 @@ ranged {s} {D} {k} e t = record {
   yes = λ h. let x = t .yes h in record { low = x .low; high = subst (λ y. k < 2 ^ (y + 1)) e (x .high) };
   no = λ h x. t .no h (record { low = x .low; high = subst⁻¹ (λ y. k < 2 ^ (y + 1)) e (x .high) });
 }
+
+-- the answer where the way stops
+pub stopped-rows : {s : List ℕ} {k m i n a : ℕ} → Good s → InRange s k → OnFirstWay s k m i → Stopped k m n a → Answers (leafRows s k) n × Ancestor s k n a
+stopped-rows {s} {k} {m} {i} {n} {a} G R t p = go (decLt k m) (decLt m k)
+  where
+    go : Dec (k < m) → Dec (m < k) → Answers (leafRows s k) n × Ancestor s k n a
+    go (yes l) y = (subst⁻¹ (Answers (leafRows s k)) (p .cut l) (is-cut G R (t .cut l)), record { leaf = λ e. absurd (omega (arith, p .cut l)); none = p .none })
+    go (no l) (yes y) =
+        let (e, f) = p .below y in
+        (subst⁻¹ (Answers (leafRows s k)) e (below-leaf G R (m, t .above y)), record { leaf = λ _. subst⁻¹ (LeafAbove (CutOf s) k) f (t .above y); none = p .none })
+    go (no l) (no y) =
+        let e : m ≡ k = omega arith in
+        let z = p .done e in
+        (subst⁻¹ (Answers (leafRows s k)) z (is-leaf G [] (subst (LeafOf s) e (t .leaf)) refl), record { leaf = λ x. absurd (omega arith); none = p .none })

@@ -1,17 +1,20 @@
 // Finding leaves in a panel that was judged good, `deep` its depth. These are no public calls: a caller judges first.
+use answers::Answer;
 use answers::Numbered;
 use answers::Refusal;
 use descents::leaf_below;
 use descents::leaf_over;
+use descents::uncut_over;
 use nodes::LeafNumber;
 use nodes::Node;
 ghost use mathlib.Core.Path.{_≡_};
 ghost use Prim.Native.Nat.{_≤_, _<_};
 ghost use Rattle.tables.specs.inner.Says.{Says};
-ghost use Rattle.answers.specs.Refusals.{numberedNumber, numberedLeaf, numberedAncestor};
-ghost use Rattle.panel.specs.Panels.{deepOf, Good, InRange, LeafOf, leafCount};
-ghost use Rattle.panel.specs.Calls.{LeafNumbered, Ancestor, NumberOf};
-ghost use Rattle.leaves.specs.inner.Ways.{OnFirstWay, Ranged};
+ghost use Rattle.tables.specs.Table.{Answers};
+ghost use Rattle.answers.specs.Refusals.{answerNumber, answerAncestor, numberedNumber, numberedLeaf, numberedAncestor};
+ghost use Rattle.panel.specs.Panels.{deepOf, Good, InRange, LeafOf, numberIn, leafCount};
+ghost use Rattle.panel.specs.Calls.{LeafNumbered, leafRows, Ancestor, NumberOf};
+ghost use Rattle.leaves.specs.inner.Ways.{OnFirstWay, Ranged, Stopped};
 
 // Where a descent stops: at a leaf, and its number.
 pub struct Stop {
@@ -65,16 +68,51 @@ pub fn leaf_toward(panel: &[u8], deep: usize, k: Node) -> Stop
     }
 }
 
+// The same leaf without its number.
+fn nearest_leaf(panel: &[u8], deep: usize, k: Node) -> Node
+    requires { ⌜ Good (now panel) × (deep ≡ deepOf (now panel)) × InRange (now panel) (k .0) ⌝ }
+    ensures { λ r. ⌜ OnFirstWay (now (panel .entry)) (k .0) (r .0) (numberIn (now (panel .entry)) (r .0)) ⌝ }
+{
+    let levels = deep - nodes::depth(k) as usize;
+    let first = Node(k.0 << levels);
+    Node(uncut_over(&panel, deep, deep, first))
+}
+
 // Whether k is a leaf.
 pub fn is_leaf(panel: &[u8], deep: usize, k: Node) -> bool
     requires { ⌜ Good (now panel) × (deep ≡ deepOf (now panel)) × InRange (now panel) (k .0) ⌝ }
     ensures { λ r. ⌜ Says (LeafOf (now (panel .entry)) (k .0)) r ⌝ }
 {
-    let s = leaf_toward(panel, deep, k);
-    s.node.0 == k.0
+    let leaf = nearest_leaf(panel, deep, k);
+    leaf.0 == k.0
 }
 
-// The number of leaf k, or refusal 3, 4 or 10: the way toward k stops at k, or below it where k is cut, or at the leaf above it.
+// The answer for k, where the way toward it stops at this leaf: 0, or refusal 4 or 10 where it stops below k or above it.
+fn stopped_at(k: Node, leaf: Node) -> Answer
+    ensures { λ r. ⌜ Stopped (k .0) (leaf .0) (answerNumber r) (answerAncestor r) ⌝ }
+{
+    if k.0 < leaf.0 {
+        return Answer::No(Refusal::IsCut);
+    }
+    if leaf.0 < k.0 {
+        return Answer::No(Refusal::BelowLeaf(leaf));
+    }
+    Answer::Done
+}
+
+// Whether k is a leaf, as a call that takes one answers: 0, or refusal 3, 4 or 10.
+pub fn tested(panel: &[u8], deep: usize, k: Node) -> Answer
+    requires { ⌜ Good (now panel) × (deep ≡ deepOf (now panel)) ⌝ }
+    ensures { λ r. ⌜ Answers (leafRows (now (panel .entry)) (k .0)) (answerNumber r) ⌝ }
+    ensures { λ r. ⌜ Ancestor (now (panel .entry)) (k .0) (answerNumber r) (answerAncestor r) ⌝ }
+{
+    if !in_range(deep, k) {
+        return Answer::No(Refusal::NoSuchNode);
+    }
+    stopped_at(k, nearest_leaf(panel, deep, k))
+}
+
+// The number of leaf k, or refusal 3, 4 or 10.
 pub fn number_of(panel: &[u8], deep: usize, k: Node) -> Numbered
     requires { ⌜ Good (now panel) × (deep ≡ deepOf (now panel)) ⌝ }
     ensures { λ r. ⌜ NumberOf (now (panel .entry)) (k .0) (numberedNumber r) (numberedLeaf r) ⌝ }
@@ -84,13 +122,9 @@ pub fn number_of(panel: &[u8], deep: usize, k: Node) -> Numbered
         return Numbered::No(Refusal::NoSuchNode);
     }
     let stop = leaf_toward(panel, deep, k);
-    let leaf = stop.node;
-    if k.0 < leaf.0 {
-        return Numbered::No(Refusal::IsCut);
-    }
-    if leaf.0 < k.0 {
-        return Numbered::No(Refusal::BelowLeaf(leaf));
-    }
     let number = stop.number;
-    Numbered::Number(number)
+    match stopped_at(k, stop.node) {
+        Answer::Done => Numbered::Number(number),
+        Answer::No(e) => Numbered::No(e),
+    }
 }

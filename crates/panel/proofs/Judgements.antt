@@ -1,14 +1,13 @@
--- How a call goes on from what it begins with, a judgement or the number of a leaf: a refusal is the call's own, and past it the rows have passed.
+-- How a call goes on from what it begins with, a judgement or the test of a leaf: a refusal is the call's own, and past it the rows have passed.
 use mathlib.Core.Path.{_≡_, refl, subst}
 use mathlib.Core.Logic.{_≢_}
 use mathlib.Core.List.{List, [], _++_}
 use Prim.Native.Nat.{ℕ}
 use native.Mathlib.Omega.{arith}
-use Rattle.nodes.specs.declared.numbers.LeafNumber.{LeafNumber}
 use Rattle.answers.specs.declared.Refusal.{Refusal}
-use Rattle.answers.specs.declared.Numbered.{Numbered}
-use Rattle.answers.specs.declared.Numbered.the-variants as numbered
-use Rattle.answers.specs.Refusals.{refusalNumber, refusalAncestor, numberedNumber, numberedLeaf, numberedAncestor}
+use Rattle.answers.specs.declared.Answer.{Answer}
+use Rattle.answers.specs.declared.Answer.the-variants as answer
+use Rattle.answers.specs.Refusals.{refusalNumber, refusalAncestor, answerNumber, answerAncestor}
 use Rattle.tables.specs.Table.{Row, Answers, Outcome}
 use Rattle.answers.proofs.Refusing.{refusal-pos, refusal-alone}
 use Rattle.tables.proofs.Exactness.{answers-among}
@@ -16,7 +15,7 @@ use Rattle.tables.proofs.Tables.{is-refused, refused-more}
 use Rattle.panel.specs.declared.judging.Judgement.{Judgement}
 use Rattle.panel.specs.declared.judging.Judgement.the-variants as judgement
 use Rattle.panel.specs.Panels.{deepOf, Good, LeafOf}
-use Rattle.panel.specs.Calls.{panelRows, Judged, leafRows, Ancestor, NumberOf}
+use Rattle.panel.specs.Calls.{panelRows, Judged, leafRows, Ancestor}
 use Rattle.panel.specs.inner.Judging.{judgementNumber, judgementDepth, GoodDepth}
 use Rattle.panel.proofs.LeafRows.{good-past, leaf-past}
 
@@ -48,18 +47,18 @@ module _ {s : List ℕ} {j : Judgement} (o : GoodDepth s (judgementNumber j) (ju
       let p : GoodDepth s 0 d = subst (λ (i : Judgement). GoodDepth s (judgementNumber i) (judgementDepth i)) h o in
       (good-past [] (p .answer) .0, p .done refl)
 
--- ---- the number of leaf k
+-- ---- the test of leaf k
 
-module _ {s : List ℕ} {k : ℕ} {a : Numbered} (o : NumberOf s k (numberedNumber a) (numberedLeaf a)) where
-  answered : {b : Numbered} → a ≡ b → Answers (leafRows s k) (numberedNumber b)
-  answered h = subst (λ (b : Numbered). Answers (leafRows s k) (numberedNumber b)) h (o .answer)
+module _ {s : List ℕ} {k : ℕ} {a : Answer} (o : Answers (leafRows s k) (answerNumber a)) where
+  answered : {b : Answer} → a ≡ b → Answers (leafRows s k) (answerNumber b)
+  answered h = subst (λ (b : Answer). Answers (leafRows s k) (answerNumber b)) h o
 
-  pub numbered-no : {e : Refusal} {more : List Row} {A : Type 0} {Fine Refused : A → Type 0} {x : A}
-      → a ≡ numbered.No e → Refused x → Outcome (leafRows s k ++ more) A Fine Refused (refusalNumber e) x
-  numbered-no {e} {more} h r = handed-on (leafRows s k) more e (answered h) r
+  pub tested-no : {e : Refusal} {more : List Row} {A : Type 0} {Fine Refused : A → Type 0} {x : A}
+      → a ≡ answer.No e → Refused x → Outcome (leafRows s k ++ more) A Fine Refused (refusalNumber e) x
+  tested-no {e} {more} h r = handed-on (leafRows s k) more e (answered h) r
 
-  pub numbered-ancestor : {e : Refusal} → Ancestor s k (numberedNumber a) (numberedAncestor a) → a ≡ numbered.No e → Ancestor s k (refusalNumber e) (refusalAncestor e)
-  numbered-ancestor x h = subst (λ (b : Numbered). Ancestor s k (numberedNumber b) (numberedAncestor b)) h x
+  pub tested-ancestor : {e : Refusal} → Ancestor s k (answerNumber a) (answerAncestor a) → a ≡ answer.No e → Ancestor s k (refusalNumber e) (refusalAncestor e)
+  tested-ancestor x h = subst (λ (b : Answer). Ancestor s k (answerNumber b) (answerAncestor b)) h x
 
-  pub numbered-leaf : {i : LeafNumber} → a ≡ numbered.Number i → LeafOf s k
-  numbered-leaf h = leaf-past [] (answered h) .1
+  pub tested-leaf : a ≡ answer.Done → LeafOf s k
+  tested-leaf h = leaf-past [] (answered h) .1

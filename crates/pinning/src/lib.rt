@@ -1,8 +1,7 @@
 // The pins of a panel that was judged good, `deep` its depth. These are no public calls: a caller judges first.
 use answers::Answer;
-use answers::Numbered;
 use answers::Pinning;
-use leaves::number_of;
+use leaves::tested;
 use nodes::Node;
 ghost use mathlib.Core.Path.{_≡_};
 ghost use Prim.Native.Nat.{_+_, _*_, _<_};
@@ -54,8 +53,8 @@ pub fn pinned(panel: &[u8], deep: usize, k: Node) -> Pinning
     ensures { λ r. ⌜ PinOf (now (panel .entry)) (k .0) (pinningNumber r) (pinningBit r) ⌝ }
     ensures { λ r. ⌜ Ancestor (now (panel .entry)) (k .0) (pinningNumber r) (pinningAncestor r) ⌝ }
 {
-    let number = number_of(panel, deep, k);
-    if let Numbered::No(e) = number {
+    let leaf = tested(panel, deep, k);
+    if let Answer::No(e) = leaf {
         return Pinning::No(e);
     }
     Pinning::Pinned(is_pinned(panel, deep, k))
@@ -67,8 +66,8 @@ pub fn put_pin(panel: &mut [u8], deep: usize, k: Node, v: u8) -> Answer
     ensures { λ r. ⌜ PinPut (now (panel .entry)) (k .0) v (answerNumber r) (now (panel .exit)) ⌝ }
     ensures { λ r. ⌜ Ancestor (now (panel .entry)) (k .0) (answerNumber r) (answerAncestor r) ⌝ }
 {
-    let number = number_of(panel, deep, k);
-    if let Numbered::No(e) = number {
+    let leaf = tested(panel, deep, k);
+    if let Answer::No(e) = leaf {
         return Answer::No(e);
     }
     pins::put_pin(panel, deep, pins::leaf_place(deep, k), v);

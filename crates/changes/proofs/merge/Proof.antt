@@ -1,4 +1,4 @@
--- The number of leaf k is the first rows of the table, the tests behind it the others, and the work is done only behind them.
+-- The test of leaf k is the first rows of the table, the tests behind it the others, and the work is done only behind them.
 use mathlib.Core.Path.{refl}
 use mathlib.Core.Logic.{inl, inr}
 use mathlib.Core.List.{[], _∷_, _++_}
@@ -12,18 +12,18 @@ use Rattle.panel.specs.Panels.{LeafOf}
 use Rattle.panel.specs.Calls.{leafRows, Unpinned, mergeRows}
 use Rattle.panel.proofs.GoodPanels.{leaf-in-range}
 use Rattle.panel.proofs.LeafRows.{is-leaf}
-use Rattle.panel.proofs.Judgements.{no-ancestor, numbered-no, numbered-ancestor, numbered-leaf}
+use Rattle.panel.proofs.Judgements.{no-ancestor, tested-no, tested-ancestor, tested-leaf}
 use Rattle.changes.proofs.merge.Statement.{statement}
 use Rattle.changes.proofs.merge.Tie as tie
 
 leaf : (c : tie.After-enum-told) → let a = c .before .before .before .before .before .args in LeafOf (a .panel .now) (a .k .0)
-leaf c = numbered-leaf (c .before .before .number-of .ensures .0) (c .enum-told .given .1)
+leaf c = tested-leaf (c .before .before .tested .ensures .0) (c .enum-told .given .1)
 
 returns : tie.Need-returns
 returns c =
-    let (o, a) = c .before .before .before .number-of .ensures in
-    let e = c .before .number .given .1 in
-    (numbered-no o e refl, numbered-ancestor o a e)
+    let (o, a) = c .before .before .before .tested .ensures in
+    let e = c .before .leaf .given .1 in
+    (tested-no o e refl, tested-ancestor o a e)
 
 depth-requires : tie.Need-depth-requires
 depth-requires c κs = omega (arith, leaf c .low)

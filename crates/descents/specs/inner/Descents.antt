@@ -13,7 +13,13 @@ pub record OnWay (s : List ℕ) (n m i : ℕ) : Type 0 where
   pub number : i ≡ numberIn s m
   pub over : n / 2 ^ (deepOf s - depthOf m) ≡ m
 
--- node k is reached, left levels above depth D: its word w starts at bit p
+-- node k is reached, left levels above depth D: it is node 1, or its parent is cut
+pub record Reached (s : List ℕ) (left k : ℕ) : Type 0 where
+  pub low : 1 ≤ k
+  pub levels : depthOf k + left ≡ deepOf s
+  pub reached : 2 ≤ k → CutOf s (k / 2)
+
+-- .. and its word w starts at bit p
 pub record Spot (s : List ℕ) (left p k w : ℕ) : Type 0 where
   pub low : 1 ≤ k
   pub levels : depthOf k + left ≡ deepOf s

@@ -8,7 +8,7 @@ use Rattle.leaves.proofs.is_leaf.Tie as tie
 
 returns : tie.Need-returns
 returns c =
-    let t = c .before .before .leaf-toward .ensures in
+    let t = c .before .before .nearest-leaf .ensures in
     says-equal _ _ (λ e. subst (LeafOf (c .before .before .before .before .args .panel .now)) e (t .leaf)) (t .own)
 
 pub is-leaf-spec : {M : Type 1} → statement M

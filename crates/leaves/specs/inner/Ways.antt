@@ -1,5 +1,6 @@
 -- Where the way to a node stops.
 use mathlib.Core.Path.{_≡_}
+use mathlib.Core.Logic.{_≢_}
 use mathlib.Core.List.{List}
 use Prim.Native.Nat.{ℕ, _+_, _^_, _≤_, _<_}
 use Rattle.cuts.specs.Cuts.{LeafAbove}
@@ -18,3 +19,10 @@ pub record OnFirstWay (s : List ℕ) (k m i : ℕ) : Type 0 where
 pub record Ranged (D k : ℕ) : Type 0 where
   pub low : 2 ≤ k
   pub high : k < 2 ^ (D + 1)
+
+-- n answers for k, and a stands beside it, where the way toward k stops at node m
+pub record Stopped (k m n a : ℕ) : Type 0 where
+  pub done : m ≡ k → n ≡ 0
+  pub cut : k < m → n ≡ 4
+  pub below : m < k → (n ≡ 10) × (a ≡ m)
+  pub none : n ≢ 10 → a ≡ 0

@@ -1,4 +1,4 @@
--- The number of leaf k is the table's rows, and behind them the pin is read.
+-- The test of leaf k is the table's rows, and behind them the pin is read.
 use mathlib.Core.Path.{_≡_, refl, sym}
 use mathlib.Core.Bool.{Bool, true, false}
 use mathlib.Core.List.{List, []}
@@ -15,12 +15,12 @@ use Rattle.pins.proofs.PinBits.{pin-lt}
 use Rattle.panel.specs.Panels.{deepOf, LeafOf, Pinned, pinOf}
 use Rattle.panel.proofs.GoodPanels.{leaf-in-range}
 use Rattle.panel.proofs.LeafRows.{is-leaf}
-use Rattle.panel.proofs.Judgements.{no-ancestor, numbered-no, numbered-ancestor, numbered-leaf}
+use Rattle.panel.proofs.Judgements.{no-ancestor, tested-no, tested-ancestor, tested-leaf}
 use Rattle.pinning.proofs.pinned.Statement.{statement}
 use Rattle.pinning.proofs.pinned.Tie as tie
 
 leaf : (c : tie.After-enum-told) → let a = c .before .before .before .before .args in LeafOf (a .panel .now) (a .k .0)
-leaf c = numbered-leaf (c .before .before .number-of .ensures .0) (c .enum-told .given .1)
+leaf c = tested-leaf (c .before .before .tested .ensures .0) (c .enum-told .given .1)
 
 -- what is told is the pin
 told : (s : List ℕ) (k : ℕ) (b : Bool) → Says (Pinned s k) b → pinningBit (pinning.Pinned b) ≡ pinOf s k
@@ -33,9 +33,9 @@ told s k false h = go (ℕ-discrete (pinOf s k) 1)
 
 returns : tie.Need-returns
 returns c =
-    let (o, a) = c .before .before .before .number-of .ensures in
-    let e = c .before .number .given .1 in
-    (numbered-no o e refl, numbered-ancestor o a e)
+    let (o, a) = c .before .before .before .tested .ensures in
+    let e = c .before .leaf .given .1 in
+    (tested-no o e refl, tested-ancestor o a e)
 
 is-pinned-requires : tie.Need-is-pinned-requires
 is-pinned-requires c κs = let p = c .before .before .before .before .pre in (p .0, p .1, leaf-in-range _ (p .0) _ (leaf c))

@@ -1,4 +1,4 @@
--- The number of leaf k is the table's rows, and behind them its pin is put.
+-- The test of leaf k is the table's rows, and behind them its pin is put.
 use mathlib.Core.Path.{refl}
 use mathlib.Core.List.{[]}
 use native.Mathlib.Omega.{arith}
@@ -8,19 +8,19 @@ use Rattle.panel.specs.Panels.{LeafOf}
 use Rattle.panel.proofs.GoodPanels.{leaf-in-range}
 use Rattle.panel.proofs.LeafRows.{is-leaf}
 use Rattle.panel.proofs.Lengths.{good-pins}
-use Rattle.panel.proofs.Judgements.{no-ancestor, numbered-no, numbered-ancestor, numbered-leaf}
+use Rattle.panel.proofs.Judgements.{no-ancestor, tested-no, tested-ancestor, tested-leaf}
 use Rattle.pinning.proofs.Pins.{put-at, range-place}
 use Rattle.pinning.proofs.put_pin.Statement.{statement}
 use Rattle.pinning.proofs.put_pin.Tie as tie
 
 leaf : (c : tie.After-enum-told) → let a = c .before .before .before .before .before .args in LeafOf (a .panel .now) (a .k .0)
-leaf c = numbered-leaf (c .before .before .number-of .ensures .0) (c .enum-told .given .1)
+leaf c = tested-leaf (c .before .before .tested .ensures .0) (c .enum-told .given .1)
 
 returns : tie.Need-returns
 returns c =
-    let (o, a) = c .before .before .before .number-of .ensures in
-    let e = c .before .number .given .1 in
-    (numbered-no o e refl, numbered-ancestor o a e)
+    let (o, a) = c .before .before .before .tested .ensures in
+    let e = c .before .leaf .given .1 in
+    (tested-no o e refl, tested-ancestor o a e)
 
 leaf-place-requires : tie.Need-leaf-place-requires
 leaf-place-requires c κs = let p = c .before .before .before .before .before .before .pre in range-place (p .0) (p .1) (leaf-in-range _ (p .0) _ (leaf (c .before)))
