@@ -4,6 +4,7 @@ use answers::Refusal;
 use cutting::merge_leaves;
 use cutting::split_leaf;
 use leaves::is_leaf;
+use leaves::leaf_beside;
 use leaves::tested;
 use nodes::Node;
 use pinning::unpinned;
@@ -12,7 +13,7 @@ ghost use Prim.Native.Nat.{_<_};
 ghost use Rattle.nodes.specs.Depth.{depthOf};
 ghost use Rattle.answers.specs.Refusals.{answerNumber, answerAncestor};
 ghost use Rattle.tables.specs.inner.Says.{Says};
-ghost use Rattle.panel.specs.Panels.{deepOf, Good, InRange};
+ghost use Rattle.panel.specs.Panels.{deepOf, Good, LeafOf};
 ghost use Rattle.panel.specs.Calls.{Ancestor, Split, Together, Merge};
 
 // Splits leaf k: 0, or refusal 3, 4, 10 or 5 and no byte written.
@@ -35,17 +36,17 @@ pub fn split(panel: &mut [u8], deep: usize, k: Node) -> Answer
 // Whether the leaves are there that a merge of leaf k needs: its sibling and, where the parent's edge neighbour is a node,
 // both that one's children. At the border there is no pair across to test.
 fn together(panel: &[u8], deep: usize, k: Node) -> bool
-    requires { ⌜ Good (now panel) × (deep ≡ deepOf (now panel)) × InRange (now panel) (k .0) × (1 < depthOf (k .0)) ⌝ }
+    requires { ⌜ Good (now panel) × (deep ≡ deepOf (now panel)) × LeafOf (now panel) (k .0) × (1 < depthOf (k .0)) ⌝ }
     ensures { λ r. ⌜ Says (Together (now (panel .entry)) (k .0)) r ⌝ }
 {
     let q = k.0 / 2;
-    if is_leaf(panel, deep, Node(4 * q + 1 - k.0)) {
+    if leaf_beside(panel, deep, Node(4 * q + 1 - k.0)) {
         let e = nodes::edge_of(Node(q));
         if e == 0 {
             return true;
         }
         if is_leaf(panel, deep, Node(2 * e)) {
-            return is_leaf(panel, deep, Node(2 * e + 1));
+            return leaf_beside(panel, deep, Node(2 * e + 1));
         }
     }
     false

@@ -21,7 +21,7 @@ use Rattle.pins.proofs.PinBits.{pin-lt, pin-room-same, length-put-pin, leaf-put
 use Rattle.panel.specs.Panels.{Fits, deepOf, CutOf, Good}
 use Rattle.panel.proofs.Lengths.{fits-small, fits-room, fits-pins}
 use Rattle.panel.proofs.SameBytes.{cut-of, deep-same}
-use Rattle.cutting.specs.inner.Changing.{CutPut, CutUnder, Holder}
+use Rattle.cutting.specs.inner.Changing.{CutPut, CutUnder}
 
 -- xs are the bytes of panel s with leaf bits and pins changed, but for the first leaf bit, and right sums
 pub record AtWork (s xs : List ℕ) : Type 0 where
@@ -130,9 +130,6 @@ module _ {s : List ℕ} (G : Good s) {D : ℕ} (e : D ≡ deepOf s) where
 
   pub under-at : {xs ys : List ℕ} {n l : ℕ} → CutUnder D xs n l ys → CutUnder (deepOf s) xs n l ys
   under-at {xs} {ys} {n} {l} c = subst (λ x. CutUnder x xs n l ys) e c
-
-  pub holder-at : (bs : List ℕ) {n r : ℕ} → Holder (Cut D (leafBit D bs)) n r → Holder (CutIn s bs) n r
-  holder-at bs {n} {r} h = subst (λ x. Holder (Cut x (leafBit x bs)) n r) e h
 
   pub put-at : {xs ys : List ℕ} {n v : ℕ} → CutPut D xs n v ys → CutPut (deepOf s) xs n v ys
   put-at {xs} {ys} {n} {v} c = subst (λ x. CutPut x xs n v ys) e c

@@ -18,11 +18,10 @@ use Rattle.panel.specs.Panels.{deepOf, CutOf, Good, LeafOf}
 use Rattle.panel.specs.Calls.{SplitAt}
 use Rattle.cuts.specs.Cuts.{Smallest}
 use Rattle.cuts.specs.inner.Steps.{NodeOf}
-use Rattle.cutting.specs.inner.Changing.{CutUnder, Holder}
-use Rattle.cuts.proofs.Places.{dec-cut}
+use Rattle.cutting.specs.inner.Changing.{CutUnder}
 use Rattle.cuts.proofs.ForcedCuts.{next, smallest-iff}
 use Rattle.cuts.proofs.ForcedChain.{Chain, chain-start, chain-root, chain-cut, chain-last, chain-step, chain-smallest}
-use Rattle.cutting.proofs.AtWork.{AtWork, CutIn, shallow, work-start, work-under, under-add, work-cuts, work-good}
+use Rattle.cutting.proofs.AtWork.{AtWork, CutIn, work-start, work-under, under-add, work-cuts, work-good}
 use Rattle.cutting.proofs.Passing.{PinsStay, stay-start, stay-under, stay-passed}
 
 -- on the way to k's cut, node m is next
@@ -110,35 +109,34 @@ module _ {s : List ℕ} (G : Good s) where
             big : 2 ≤ edge m / 2
             big = some (decLt 1 (edge m / 2))
 
-        -- so the pin that its cut gets is that of the leaf above it
-        pub held : {l : ℕ} → Holder (CutIn s xs) (edge m) l → Dec (CutIn s xs (edge m / 2)) → (i : ℕ) × LeafOf s (edge m / 2 ^ i) × (edge m / 2 ^ i ≡ l)
-        held h (yes p) = let e : edge m ≡ edge m / 1 = omega arith in (0, subst (LeafOf s) e (own-leaf p), sym e ∙ sym (h .cut p))
-        held h (no p) = (1, parent-leaf p, sym (h .uncut p))
+        -- so the pin that its cut gets is that of the old leaf l which it is or lies below
+        abbrev pub Held : ℕ → Type 0
+        Held l = (i : ℕ) × LeafOf s l × (edge m / 2 ^ i ≡ l)
 
-        pub held-node : {l : ℕ} → Holder (CutIn s xs) (edge m) l → (1 ≤ l) × (depthOf l ≤ deepOf s)
-        held-node {l} h = go (held h (dec-cut (deepOf s) (leafBit (deepOf s) xs) (shallow G) (edge m / 2)))
-          where
-            go : (i : ℕ) × LeafOf s (edge m / 2 ^ i) × (edge m / 2 ^ i ≡ l) → (1 ≤ l) × (depthOf l ≤ deepOf s)
-            go (i, L, e) = let N = subst (LeafOf s) e L in (omega (arith, N .low), leaf-depth (deepOf s) (leafBit (deepOf s) s) (good-bits s G) l N)
+        pub held-own : CutIn s xs (edge m / 2) → Held (edge m)
+        held-own p = (0, own-leaf p, let e : edge m / 1 ≡ edge m = omega arith in e)
 
-        pub holder-node : NodeOf (deepOf s) (edge m / 2)
-        holder-node =
+        pub held-above : (CutIn s xs (edge m / 2) → ⊥) → Held (edge m / 2)
+        held-above p = (1, parent-leaf p, let e : edge m / 2 ≡ edge m / 2 = omega arith in e)
+
+        pub held-node : {l : ℕ} → Held l → (1 ≤ l) × (depthOf l ≤ deepOf s)
+        held-node {l} (i, L, e) = (omega (arith, L .low), leaf-depth (deepOf s) (leafBit (deepOf s) s) (good-bits s G) l L)
+
+        pub parent-node : NodeOf (deepOf s) (edge m / 2)
+        parent-node =
             let h : 1 ≤ edge m / 2 = omega (arith, e-at .low, pow-pos (depthOf (m / 2)), pow-next (depthOf (m / 2))) in
             record { low = h; high = below-depth (edge m / 2) (deepOf s) h (omega (arith, depth-is (at-parent e-at), depth-half m low, c .deep)) }
 
       -- and else both are cut, and the neighbour's parent is next
-      pub splitting-step : edge m ≢ 0 → {l : ℕ} → Holder (CutIn s xs) (edge m) l → {ys : List ℕ} → CutUnder (deepOf s) xs (edge m) l ys → Splitting s k ys (edge m / 2)
-      splitting-step z {l} h {ys} b = record {
+      pub splitting-step : (z : edge m ≢ 0) {l : ℕ} → Held z l → {ys : List ℕ} → CutUnder (deepOf s) xs (edge m) l ys → Splitting s k ys (edge m / 2)
+      splitting-step z {l} (i, L, e) {ys} b = record {
         work = work-under G work-1 b;
         leaf = c .leaf;
         chain = subst (λ d. Chain (CutOf s) k (CutIn s ys) d (edge m / 2)) (sym (depth-is (after .at))) after;
         deep = omega (arith, depth-is (after .at), depth-half m low, c .deep);
-        pins = passed (held z h (dec-cut (deepOf s) (leafBit (deepOf s) xs) (shallow G) (edge m / 2)));
+        pins = stay-under G work-1 old-1 pins-1 i L e b;
       }
         where
-          passed : (i : ℕ) × LeafOf s (edge m / 2 ^ i) × (edge m / 2 ^ i ≡ l) → PinsStay s ys
-          passed (i, L, e) = stay-under G work-1 old-1 pins-1 i (subst (LeafOf s) e L) e b
-
           both : (n : ℕ) → CutIn s ys n ↔ (CutIn s bs n ⊎ (n ≡ m) ⊎ (n ≡ edge m))
           both n =
               let i = under-add G (c .work) a n in
@@ -149,6 +147,10 @@ module _ {s : List ℕ} (G : Good s) where
 
           after : Chain (CutOf s) k (CutIn s ys) (depthOf (m / 2)) (edge m / 2)
           after = chain-step (G .cuts) own z both
+
+  -- a node that was not cut is not where another was
+  pub still-uncut : {bs ys : List ℕ} {n l m : ℕ} → AtWork s bs → CutUnder (deepOf s) bs n l ys → m ≢ n → (CutIn s bs m → ⊥) → CutIn s ys m → ⊥
+  still-uncut {m = m} w u z f c = ⊎-elim f z (under-add G w u m .0 c)
 
 -- the parent of the node across is nearer to node 1
 pub across-above : (m : ℕ) → 2 ≤ m → edge m ≢ 0 → depthOf (edge m / 2) < depthOf m

@@ -3,17 +3,14 @@ use cuts::cut_place;
 use cuts::is_cut;
 use nodes::Node;
 ghost use mathlib.Core.Path.{_≡_};
-ghost use Prim.Native.Nat.{_/_, _≤_, _<_};
+ghost use Prim.Native.Nat.{_≤_, _<_};
 ghost use Rattle.nodes.specs.Depth.{depthOf};
-ghost use Rattle.words.specs.Words.{leafBit};
 ghost use Rattle.words.specs.inner.Working.{Room};
 ghost use Rattle.sums.specs.Sums.{SumsRight};
-ghost use Rattle.cuts.specs.Cuts.{Cut};
-ghost use Rattle.cuts.specs.inner.Steps.{NodeOf};
 ghost use Rattle.pins.specs.inner.Steps.{PinRoom};
 ghost use Rattle.panel.specs.Panels.{deepOf, Good, LeafOf};
 ghost use Rattle.panel.specs.Calls.{SplitAt, Together, Unpinned, MergeAt};
-ghost use Rattle.cutting.specs.inner.Changing.{CutPut, CutUnder, Holder};
+ghost use Rattle.cutting.specs.inner.Changing.{CutPut, CutUnder};
 
 // Sets or clears the leaf bit that names n.
 fn put_cut(panel: &mut [u8], deep: usize, n: Node, v: u8)
@@ -34,35 +31,27 @@ fn cut_under(panel: &mut [u8], deep: usize, n: Node, l: Node)
     pins::put_pin(panel, deep, p, v);
 }
 
-// The leaf that n is or lies right below: n where its parent is cut, and else the parent.
-fn holder(panel: &[u8], deep: usize, n: Node) -> Node
-    requires { ⌜ Room deep (now panel) × NodeOf deep (n .0 / 2) ⌝ }
-    ensures { λ r. ⌜ Holder (Cut deep (leafBit deep (now (panel .entry)))) (n .0) (r .0) ⌝ }
-{
-    let up = n.0 / 2;
-    if is_cut(panel, deep, Node(up)) {
-        return n;
-    }
-    Node(up)
-}
-
 // Splits leaf k, which is not at depth D: cuts it and what its cut forces, the neighbour across the long side, its uncut parent, and so
-// on up. Each new leaf gets the pin of the old leaf that it lies below; a neighbour whose parent is uncut gets the parent's, before the
-// parent is cut.
+// on up. Each new leaf gets the pin of the old leaf that it lies below: the neighbour's cut that of the neighbour, or of its uncut parent,
+// before that one is cut.
 pub fn split_leaf(panel: &mut [u8], deep: usize, k: Node)
     requires { ⌜ Good (now panel) × (deep ≡ deepOf (now panel)) × LeafOf (now panel) (k .0) × (depthOf (k .0) < deep) ⌝ }
     ensures { λ _. ⌜ SplitAt (now (panel .entry)) (k .0) (now (panel .exit)) ⌝ }
 {
     let mut cur = k.0;
-    while !is_cut(panel, deep, Node(cur)) {
+    loop {
         cut_under(panel, deep, Node(cur), Node(cur));
         let e = nodes::edge_of(Node(cur));
         if e == 0 {
             return;
         }
-        let l = holder(panel, deep, Node(e));
-        cut_under(panel, deep, Node(e), l);
-        cur = e / 2;
+        let up = e / 2;
+        if is_cut(panel, deep, Node(up)) {
+            cut_under(panel, deep, Node(e), Node(e));
+            return;
+        }
+        cut_under(panel, deep, Node(e), Node(up));
+        cur = up;
     }
 }
 

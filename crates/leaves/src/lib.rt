@@ -2,6 +2,7 @@
 use answers::Answer;
 use answers::Numbered;
 use answers::Refusal;
+use cuts::is_cut;
 use descents::leaf_below;
 use descents::leaf_over;
 use descents::uncut_over;
@@ -12,6 +13,7 @@ ghost use Prim.Native.Nat.{_≤_, _<_};
 ghost use Rattle.tables.specs.inner.Says.{Says};
 ghost use Rattle.tables.specs.Table.{Answers};
 ghost use Rattle.answers.specs.Refusals.{answerNumber, answerAncestor, numberedNumber, numberedLeaf, numberedAncestor};
+ghost use Rattle.cuts.specs.Cuts.{sibling};
 ghost use Rattle.panel.specs.Panels.{deepOf, Good, InRange, LeafOf, numberIn, leafCount};
 ghost use Rattle.panel.specs.Calls.{LeafNumbered, leafRows, Ancestor, NumberOf};
 ghost use Rattle.leaves.specs.inner.Ways.{OnFirstWay, Ranged, Stopped};
@@ -85,6 +87,14 @@ pub fn is_leaf(panel: &[u8], deep: usize, k: Node) -> bool
 {
     let leaf = nearest_leaf(panel, deep, k);
     leaf.0 == k.0
+}
+
+// Whether k is a leaf, where its sibling is one: the way down comes to both.
+pub fn leaf_beside(panel: &[u8], deep: usize, k: Node) -> bool
+    requires { ⌜ Good (now panel) × (deep ≡ deepOf (now panel)) × InRange (now panel) (k .0) × LeafOf (now panel) (sibling (k .0)) ⌝ }
+    ensures { λ r. ⌜ Says (LeafOf (now (panel .entry)) (k .0)) r ⌝ }
+{
+    !is_cut(panel, deep, k)
 }
 
 // The answer for k, where the way toward it stops at this leaf: 0, or refusal 4 or 10 where it stops below k or above it.

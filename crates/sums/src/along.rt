@@ -18,7 +18,7 @@ pub fn put_leaf(bytes: &mut [u8], deep: usize, p: usize, v: u8)
     let mut k = (1usize << deep) + p;
     let mut top: usize = 2 << deep;
     let mut w: usize = 1;
-    while 1 < k {
+    while w <= deep {
         k /= 2;
         top /= 2;
         w += 1;

@@ -38,7 +38,7 @@ together-requires : tie.Need-together-requires
 together-requires c κs =
     let d = c .before .before in
     let a = d .before .before .before .before .before .before in
-    (a .pre .0, a .pre .1, leaf-in-range _ (a .pre .0) _ (leaf (d .before)), omega (arith, d .depth .ensures))
+    (a .pre .0, a .pre .1, leaf (d .before), omega (arith, d .depth .ensures))
 
 returns-3 : tie.Need-returns-3
 returns-3 c =

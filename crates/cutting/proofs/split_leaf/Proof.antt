@@ -1,147 +1,161 @@
--- The loop's invariant: what is cut so far and what the next node forces are, together, what k forces; and the pin over each place is as it
--- was. Each cut gets the pin of the old leaf above it.
-use mathlib.Core.Path.{sym, ap, _∙_, subst}
-use mathlib.Core.Logic.{_≢_}
+-- The loop's invariant: what is cut so far and what the next node forces are, together, what k forces; the next node is not cut; and the pin over
+-- each place is as it was. Each cut gets the pin of the old leaf above it.
+use mathlib.Core.Path.{_≡_, sym, ap, _∙_, subst, subst⁻¹}
+use mathlib.Core.Logic.{_≢_, inl}
 use Prim.Native.Nat.{_+_, _/_, _≤_}
 use native.Mathlib.Omega.{arith}
 use lib.Pow.{pow-mono}
-use borrow.Author.Tests.{not-true, not-false}
 use Rattle.nodes.specs.Depth.{depthOf}
 use Rattle.nodes.specs.Neighbours.{edge}
 use Rattle.nodes.proofs.Edges.{edge-depth}
 use Rattle.cuts.specs.inner.Steps.{NodeOf}
 use Rattle.panel.specs.Panels.{deepOf}
 use Rattle.panel.specs.Calls.{SplitAt}
-use Rattle.cutting.specs.inner.Changing.{CutUnder, Holder}
-use Rattle.cutting.proofs.AtWork.{AtWork, CutIn, work-under, room-at, sums-at, pins-at, under-at, holder-at, cut-at}
-use Rattle.cutting.proofs.Splitting.{Splitting, splitting-start, splitting-node, splitting-low, splitting-cut, splitting-last, splitting-step, held-node, holder-node, across-above}
+use Rattle.cutting.specs.inner.Changing.{CutUnder}
+use Rattle.cutting.proofs.AtWork.{AtWork, CutIn, work-under, under-add, room-at, sums-at, pins-at, under-at, cut-at}
+use Rattle.cutting.proofs.Splitting.{Splitting, splitting-start, splitting-node, splitting-low, splitting-cut, splitting-last, Held, held-own, held-above, held-node, parent-node, splitting-step, still-uncut, across-above}
 use Rattle.cutting.proofs.split_leaf.Statement.{statement}
 use Rattle.cutting.proofs.split_leaf.Tie as tie
 
 abbrev Inv-loop : tie.InvT-loop
-Inv-loop panel₀ deep cur₀ panel cur = Splitting panel₀ cur₀ panel cur
+Inv-loop panel₀ deep cur₀ panel cur = Splitting panel₀ cur₀ panel cur × (CutIn panel₀ panel cur → ⊥)
 
 abbrev μ-loop : tie.MeasureT-loop
 μ-loop panel₀ deep cur₀ panel cur = depthOf cur
 
+abbrev start : tie.At-loop Inv-loop μ-loop → tie.Start Inv-loop μ-loop
+start l = l .before .before
+
 loop-holds : tie.Need-loop-holds Inv-loop μ-loop
-loop-holds c = let a = c .before in splitting-start (a .pre .0) (a .pre .2) (omega arith)
+loop-holds c = let a = c .before in (splitting-start (a .pre .0) (a .pre .2) (omega arith), a .pre .2 .uncut)
 
-is-cut-requires : tie.Need-is-cut-requires Inv-loop μ-loop
-is-cut-requires c κs =
-    let a = c .before .before .before in
-    let n = splitting-node (a .pre .0) (c .before .loop .inv) in
-    (room-at (a .pre .0) (a .pre .1) (c .before .loop .inv .work), rw (a .pre .1) n)
-
--- the node that is next is not cut, so it is not node 1
-uncut : (c : tie.Then1 Inv-loop μ-loop) → let l = c .before .before .before in CutIn (l .before .before .args .panel .now) (l .loop .panel) (l .loop .cur) → ⊥
-uncut c x =
-    let l = c .before .before .before in
-    let a = l .before .before in
-    c .before .is-cut .ensures .no (not-true _ (c .if1 .taken)) (cut-at (a .pre .0) (a .pre .1) (l .loop .panel) (l .loop .cur) .1 x)
-
-low : (c : tie.Then1 Inv-loop μ-loop) → 2 ≤ c .before .before .before .loop .cur
-low c = let l = c .before .before .before in splitting-low (l .before .before .pre .0) (l .loop .inv) (uncut c)
+-- node 1 is cut
+low : (l : tie.At-loop Inv-loop μ-loop) → 2 ≤ l .loop .cur
+low l = splitting-low (start l .pre .0) (l .loop .inv .0) (l .loop .inv .1)
 
 cut-under-requires : tie.Need-cut-under-requires Inv-loop μ-loop
 cut-under-requires c κs =
-    let l = c .before .before .before .before in
-    let a = l .before .before in
-    let h = low (c .before) in
-    (pins-at (a .pre .0) (a .pre .1) (l .loop .inv .work), sums-at (a .pre .0) (a .pre .1) (l .loop .inv .work), omega arith, omega (arith, l .loop .inv .deep), omega arith, omega (arith, l .loop .inv .deep))
+    let l = c .before in
+    let a = start l in
+    let h = low l in
+    let w = l .loop .inv .0 .work in
+    (pins-at (a .pre .0) (a .pre .1) w, sums-at (a .pre .0) (a .pre .1) w, omega arith, omega (arith, l .loop .inv .0 .deep), omega arith, omega (arith, l .loop .inv .0 .deep))
 
--- its own cut
-own : (c : tie.After-cut-under Inv-loop μ-loop) → let l = c .before .before .before .before .before in
-    CutUnder (deepOf (l .before .before .args .panel .now)) (l .loop .panel) (l .loop .cur) (l .loop .cur) (c .cut-under .last .0)
-own c = let a = c .before .before .before .before .before .before .before in under-at (a .pre .0) (a .pre .1) (c .cut-under .ensures)
+-- the next node's own cut
+own : (c : tie.After-cut-under Inv-loop μ-loop) → let l = c .before .before in
+    CutUnder (deepOf (start l .args .panel .now)) (l .loop .panel) (l .loop .cur) (l .loop .cur) (c .cut-under .last .0)
+own c = let a = start (c .before .before) in under-at (a .pre .0) (a .pre .1) (c .cut-under .ensures)
 
-work : (c : tie.After-cut-under Inv-loop μ-loop) → AtWork (c .before .before .before .before .before .before .before .args .panel .now) (c .cut-under .last .0)
-work c = let l = c .before .before .before .before .before in work-under (l .before .before .pre .0) (l .loop .inv .work) (own c)
+work : (c : tie.After-cut-under Inv-loop μ-loop) → AtWork (start (c .before .before) .args .panel .now) (c .cut-under .last .0)
+work c = let l = c .before .before in work-under (start l .pre .0) (l .loop .inv .0 .work) (own c)
 
 edge-of-requires : tie.Need-edge-of-requires Inv-loop μ-loop
 edge-of-requires c κs =
-    let l = c .before .before .before .before .before .before .before in
-    let a = l .before .before in
-    let n = splitting-node (a .pre .0) (l .loop .inv) in
-    (low (c .before .before .before .before), omega (arith, n .high, a .pre .0 .fits .high, pow-mono {i = deepOf (a .args .panel .now) + 1} {j = 18} (omega (arith, a .pre .0 .fits .high))))
+    let l = c .before .before .before .before in
+    let a = start l in
+    let n = splitting-node (a .pre .0) (l .loop .inv .0) in
+    (low l, omega (arith, n .high, a .pre .0 .fits .high, pow-mono {i = deepOf (a .args .panel .now) + 1} {j = 18} (omega (arith, a .pre .0 .fits .high))))
 
 -- without a neighbour it is the last
-done : (c : tie.Then2 Inv-loop μ-loop) → let a = c .before .before .before .before .before .before .before .before .before .before .before .args in
-    SplitAt (a .panel .now) (a .k .0) (c .before .before .before .before .cut-under .last .0)
+done : (c : tie.Then1 Inv-loop μ-loop) → let p = c .before .before .before .before in let a = start (p .before .before) .args in SplitAt (a .panel .now) (a .k .0) (p .cut-under .last .0)
 done c =
     let p = c .before .before .before .before in
-    let l = p .before .before .before .before .before in
-    splitting-last (l .before .before .pre .0) (l .loop .inv) (low (p .before .before)) (uncut (p .before .before)) (own p) (sym (c .before .edge-of .ensures) ∙ c .if2 .taken)
+    let l = p .before .before in
+    splitting-last (start l .pre .0) (l .loop .inv .0) (low l) (l .loop .inv .1) (own p) (sym (c .before .edge-of .ensures) ∙ c .if1 .taken)
 
-same-length : tie.Need-same-length Inv-loop μ-loop
-same-length c = done c .long
+-- else there is one, at the same depth
+across : (c : tie.Else1 Inv-loop μ-loop) → edge (c .before .before .before .before .before .before .loop .cur) ≢ 0
+across c z = c .if1 .left (c .before .edge-of .ensures ∙ z)
 
-returns : tie.Need-returns Inv-loop μ-loop
-returns c = done c
+level : (c : tie.Else1 Inv-loop μ-loop) → depthOf (c .before .edge-of .result) ≡ depthOf (c .before .before .before .before .before .before .loop .cur)
+level c = ap depthOf (c .before .edge-of .ensures) ∙ edge-depth (c .before .before .before .before .before .before .loop .cur) (across c)
 
-across : (c : tie.Else2 Inv-loop μ-loop) → edge (c .before .before .before .before .before .before .before .before .before .loop .cur) ≢ 0
-across c z = c .if2 .left (c .before .edge-of .ensures ∙ z)
-
-holder-requires : tie.Need-holder-requires Inv-loop μ-loop
-holder-requires c κs =
+is-cut-requires : tie.Need-is-cut-requires Inv-loop μ-loop
+is-cut-requires c κs =
     let b = c .before in
     let p = b .before .before .before .before in
-    let l = p .before .before .before .before .before in
-    let a = l .before .before in
-    let n = holder-node (a .pre .0) (l .loop .inv) (low (p .before .before)) (uncut (p .before .before)) (own p) (across b) in
-    (room-at (a .pre .0) (a .pre .1) (work p), rw (a .pre .1) (subst (λ x. NodeOf (deepOf (a .args .panel .now)) (x / 2)) (sym (b .before .edge-of .ensures)) n))
+    let l = p .before .before in
+    let a = start l in
+    let n = parent-node (a .pre .0) (l .loop .inv .0) (low l) (l .loop .inv .1) (own p) (across b) in
+    (room-at (a .pre .0) (a .pre .1) (work p), rw (a .pre .1) (subst⁻¹ (λ x. NodeOf (deepOf (a .args .panel .now)) (x / 2)) (b .before .edge-of .ensures) n))
 
--- the leaf above the neighbour
-above : (c : tie.After-holder Inv-loop μ-loop) → let p = c .before .before .before .before .before .before in let l = p .before .before .before .before .before in
-    Holder (CutIn (l .before .before .args .panel .now) (p .cut-under .last .0)) (edge (l .loop .cur)) (c .holder .result .0)
-above c =
-    let b = c .before .before in
+-- the test of its parent
+cut : (c : tie.Then2 Inv-loop μ-loop) → let p = c .before .before .before .before .before .before .before in let l = p .before .before in
+    CutIn (start l .args .panel .now) (p .cut-under .last .0) (edge (l .loop .cur) / 2)
+cut c =
+    let b = c .before .before .before in
     let p = b .before .before .before .before in
-    let l = p .before .before .before .before .before in
-    let a = l .before .before in
-    subst (λ x. Holder (CutIn (a .args .panel .now) (p .cut-under .last .0)) x (c .holder .result .0)) (b .before .edge-of .ensures) (holder-at (a .pre .0) (a .pre .1) (p .cut-under .last .0) (c .holder .ensures))
+    let a = start (p .before .before) in
+    subst (λ x. CutIn (a .args .panel .now) (p .cut-under .last .0) (x / 2)) (b .before .edge-of .ensures)
+    (cut-at (a .pre .0) (a .pre .1) (p .cut-under .last .0) (b .before .edge-of .result / 2) .0 (c .before .is-cut .ensures .yes (c .if2 .taken)))
+
+uncut : (c : tie.Else2 Inv-loop μ-loop) → let p = c .before .before .before .before .before .before .before in let l = p .before .before in
+    CutIn (start l .args .panel .now) (p .cut-under .last .0) (edge (l .loop .cur) / 2) → ⊥
+uncut c x =
+    let b = c .before .before .before in
+    let p = b .before .before .before .before in
+    let a = start (p .before .before) in
+    c .before .is-cut .ensures .no (c .if2 .left)
+    (cut-at (a .pre .0) (a .pre .1) (p .cut-under .last .0) (b .before .edge-of .result / 2) .1 (subst⁻¹ (λ y. CutIn (a .args .panel .now) (p .cut-under .last .0) (y / 2)) (b .before .edge-of .ensures) x))
 
 cut-under-requires-2 : tie.Need-cut-under-requires-2 Inv-loop μ-loop
 cut-under-requires-2 c κs =
-    let b = c .before .before .before in
+    let b = c .before .before .before .before in
     let p = b .before .before .before .before in
-    let l = p .before .before .before .before .before in
-    let a = l .before .before in
-    let e = b .before .edge-of .ensures in
-    let h = held-node (a .pre .0) (l .loop .inv) (low (p .before .before)) (uncut (p .before .before)) (own p) (across b) (above (c .before)) in
-    (pins-at (a .pre .0) (a .pre .1) (work p), sums-at (a .pre .0) (a .pre .1) (work p), omega (arith, b .if2 .left), omega (arith, ap depthOf e, edge-depth (l .loop .cur) (across b), l .loop .inv .deep), h .0, omega (arith, h .1))
+    let l = p .before .before in
+    let a = start l in
+    let d = level b in
+    (pins-at (a .pre .0) (a .pre .1) (work p), sums-at (a .pre .0) (a .pre .1) (work p), omega (arith, b .if1 .left), omega (arith, l .loop .inv .0 .deep), omega (arith, b .if1 .left), omega (arith, l .loop .inv .0 .deep))
+
+-- where the parent is cut, all is done
+ended : (c : tie.After-cut-under2 Inv-loop μ-loop) → let a = start (c .before .before .before .before .before .before .before .before .before .before .before) .args in SplitAt (a .panel .now) (a .k .0) (c .cut-under2 .last .0)
+ended c =
+    let t = c .before .before in
+    let b = t .before .before .before in
+    let p = b .before .before .before .before in
+    let l = p .before .before in
+    let a = start l in
+    let G = a .pre .0 in
+    let u : CutUnder (deepOf (a .args .panel .now)) (p .cut-under .last .0) (edge (l .loop .cur)) (edge (l .loop .cur)) (c .cut-under2 .last .0) =
+        subst (λ x. CutUnder (deepOf (a .args .panel .now)) (p .cut-under .last .0) x x (c .cut-under2 .last .0)) (b .before .edge-of .ensures) (under-at G (a .pre .1) (c .cut-under2 .ensures)) in
+    splitting-cut G
+    (splitting-step G (l .loop .inv .0) (low l) (l .loop .inv .1) (own p) (across b) (held-own G (l .loop .inv .0) (low l) (l .loop .inv .1) (own p) (across b) (cut t)) u)
+    (under-add G (work p) u (edge (l .loop .cur) / 2) .1 (inl (cut t)))
+
+cut-under-requires-3 : tie.Need-cut-under-requires-3 Inv-loop μ-loop
+cut-under-requires-3 c κs =
+    let e = c .before in
+    let b = e .before .before .before in
+    let p = b .before .before .before .before in
+    let l = p .before .before in
+    let a = start l in
+    let d = level b in
+    let h = held-node (a .pre .0) (l .loop .inv .0) (low l) (l .loop .inv .1) (own p) (across b) (held-above (a .pre .0) (l .loop .inv .0) (low l) (l .loop .inv .1) (own p) (across b) (uncut e)) in
+    let i = b .before .edge-of .ensures in
+    (pins-at (a .pre .0) (a .pre .1) (work p), sums-at (a .pre .0) (a .pre .1) (work p), omega (arith, b .if1 .left), omega (arith, l .loop .inv .0 .deep), omega (arith, h .0), omega (arith, ap (λ x. depthOf (x / 2)) i, h .1))
 
 loop-less : tie.Need-loop-less Inv-loop μ-loop
 loop-less c =
-    let b = c .before .before .before .before .before .before in
-    let p = b .before .before .before .before in
-    omega (arith, ap (λ x. depthOf (x / 2)) (b .before .edge-of .ensures), across-above (p .before .before .before .before .before .loop .cur) (low (p .before .before)) (across b))
+    let b = c .before .before .before .before .before .before .before in
+    let l = b .before .before .before .before .before .before in
+    omega (arith, ap (λ x. depthOf (x / 2)) (b .before .edge-of .ensures), across-above (l .loop .cur) (low l) (across b))
 
 loop-again : tie.Need-loop-again Inv-loop μ-loop
 loop-again c =
     let m = c .before .before in
-    let h = m .before .before in
-    let b = h .before .before in
+    let e = m .before .before in
+    let b = e .before .before .before in
     let p = b .before .before .before .before in
-    let l = p .before .before .before .before .before in
-    let a = l .before .before in
-    let e = b .before .edge-of .ensures in
-    subst (λ x. Splitting (a .args .panel .now) (a .args .k .0) (m .cut-under2 .last .0) (x / 2)) (sym e)
-    (splitting-step (a .pre .0) (l .loop .inv) (low (p .before .before)) (uncut (p .before .before)) (own p) (across b) (above h)
-    (subst (λ x. CutUnder (deepOf (a .args .panel .now)) (p .cut-under .last .0) x (h .holder .result .0) (m .cut-under2 .last .0)) e (under-at (a .pre .0) (a .pre .1) (m .cut-under2 .ensures))))
-
--- a node that is cut was cut before, with all that it forces
-ended : (c : tie.Else1 Inv-loop μ-loop) → let l = c .before .before .before in SplitAt (l .before .before .args .panel .now) (l .before .before .args .k .0) (l .loop .panel)
-ended c =
-    let l = c .before .before .before in
-    let a = l .before .before in
-    splitting-cut (a .pre .0) (l .loop .inv) (cut-at (a .pre .0) (a .pre .1) (l .loop .panel) (l .loop .cur) .0 (c .before .is-cut .ensures .yes (not-false _ (c .if1 .left))))
-
-same-length-2 : tie.Need-same-length-2 Inv-loop μ-loop
-same-length-2 c = ended c .long
-
-returns-2 : tie.Need-returns-2 Inv-loop μ-loop
-returns-2 c = ended c
+    let l = p .before .before in
+    let a = start l in
+    let G = a .pre .0 in
+    let i = b .before .edge-of .ensures in
+    let s = a .args .panel .now in
+    let u : CutUnder (deepOf s) (p .cut-under .last .0) (edge (l .loop .cur)) (edge (l .loop .cur) / 2) (m .cut-under3 .last .0) =
+        subst (λ x. CutUnder (deepOf s) (p .cut-under .last .0) x (x / 2) (m .cut-under3 .last .0)) i (under-at G (a .pre .1) (m .cut-under3 .ensures)) in
+    subst⁻¹ (λ x. Splitting s (a .args .k .0) (m .cut-under3 .last .0) (x / 2) × (CutIn s (m .cut-under3 .last .0) (x / 2) → ⊥)) i
+    (splitting-step G (l .loop .inv .0) (low l) (l .loop .inv .1) (own p) (across b) (held-above G (l .loop .inv .0) (low l) (l .loop .inv .1) (own p) (across b) (uncut e)) u,
+    still-uncut G (work p) u (λ z. omega (arith, across b)) (uncut e))
 
 pub split-leaf-spec : {M : Type 1} → statement M
 split-leaf-spec =
@@ -150,14 +164,14 @@ split-leaf-spec =
     Inv-loop
     μ-loop
     loop-holds
-    is-cut-requires
     cut-under-requires
     edge-of-requires
-    same-length
-    returns
-    holder-requires
+    (λ c. done c .long)
+    done
+    is-cut-requires
     cut-under-requires-2
+    (λ c. ended (c .before .before) .long)
+    (λ c. ended (c .before .before))
+    cut-under-requires-3
     loop-less
-    loop-again
-    same-length-2
-    returns-2)
+    loop-again)

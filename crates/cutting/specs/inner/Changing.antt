@@ -1,7 +1,7 @@
 -- What the steps of changing a panel leave.
 use mathlib.Core.Path.{_≡_}
 use mathlib.Core.List.{List}
-use Prim.Native.Nat.{ℕ, _/_}
+use Prim.Native.Nat.{ℕ}
 use Rattle.words.specs.inner.Working.{putLeafBit}
 use Rattle.sums.specs.inner.Summed.{Summed}
 use Rattle.cuts.specs.Cuts.{placeOf}
@@ -20,8 +20,3 @@ pub record CutUnder (D : ℕ) (xs : List ℕ) (n l : ℕ) (ys : List ℕ) : Type
   pub half : List ℕ
   pub cut : CutPut D xs n 1 half
   pub put : ys ≡ putPin D half (cut .place) (pinBit D xs (placeOf D l))
-
--- r is n where the parent of n is cut, and else that parent
-pub record Holder (P : ℕ → Type 0) (n r : ℕ) : Type 0 where
-  pub cut : P (n / 2) → r ≡ n
-  pub uncut : (P (n / 2) → ⊥) → r ≡ n / 2

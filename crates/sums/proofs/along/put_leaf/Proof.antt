@@ -10,7 +10,7 @@ use Rattle.words.proofs.Rooms.{bounds, room-same}
 use Rattle.words.proofs.Slots.{word-lt}
 use Rattle.sums.specs.inner.Summed.{Summed}
 use Rattle.sums.proofs.Counts.{leaf-bits}
-use Rattle.sums.proofs.Climbing.{Climbed, climb-none, climb-first, climb-takes, climb-fits, climb-step, climb-done, OnPath, path-first, path-up, OfSum, of-sum}
+use Rattle.sums.proofs.Climbing.{Climbed, climb-none, climb-first, climb-takes, climb-fits, climb-step, climb-done, OnPath, path-first, path-up, path-top, OfSum, of-sum}
 use Rattle.sums.proofs.along.put_leaf.Statement.{statement}
 use Rattle.sums.proofs.along.put_leaf.Tie as tie
 
@@ -94,7 +94,7 @@ returns-2 : tie.Need-returns-2 Inv-loop μ-loop
 returns-2 c =
     let l = c .before .loop in
     let s = c .before .before .before .before .before .before .before .before .before .before in
-    subst (λ (x : List ℕ). Summed (s .args .deep) x (l .bytes)) (c .before .before .before .before .put-leaf-bit .ensures) (climb-done (l .inv .2) (omega arith))
+    subst (λ (x : List ℕ). Summed (s .args .deep) x (l .bytes)) (c .before .before .before .before .put-leaf-bit .ensures) (climb-done (l .inv .2) (path-top (l .inv .0) (omega arith)))
 
 pub put-leaf-spec : {M : Type 1} → statement M
 put-leaf-spec =
