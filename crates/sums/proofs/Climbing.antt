@@ -155,16 +155,12 @@ pub path-first : {D k top w : ℕ} → At D k → top ≡ 2 * 2 ^ D → w ≡ 1 
 path-first {D} a e f = record { depth = D; at = a; wide = omega arith; first = e }
 
 -- one level up
-pub path-up : {D k top w : ℕ} → OnPath D k top w → w ≤ D → OnPath D (k / 2) (top / 2) (w + 1)
+pub path-up : {D k top w : ℕ} → OnPath D k top w → 1 < k → OnPath D (k / 2) (top / 2) (w + 1)
 path-up {D} {k} {top} {w} o h = go (o .depth) (o .at) (o .wide) (o .first)
   where
     go : (d : ℕ) → At d k → d + w ≡ D + 1 → top ≡ 2 * 2 ^ d → OnPath D (k / 2) (top / 2) (w + 1)
-    go zero a e f = absurd (omega arith)
+    go zero a e f = absurd (omega (arith, a .high))
     go (suc d) a e f = record { depth = d; at = at-parent a; wide = omega arith; first = omega (arith, pow-next d) }
-
--- at the top stands node 1
-pub path-top : {D k top w : ℕ} → OnPath D k top w → D < w → k / 2 ≡ 0
-path-top o h = omega (arith, at-below (o .at), o .wide, ap (λ (x : ℕ). 2 ^ (x + 1)) {x = o .depth} {y = 0} (omega (arith, o .wide)))
 
 -- the word is a sum, inside the bytes, and what the code reads and writes there is that word
 pub record OfSum (D k top w : ℕ) (bs : List ℕ) : Type 0 where

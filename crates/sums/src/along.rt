@@ -18,10 +18,13 @@ pub fn put_leaf(bytes: &mut [u8], deep: usize, p: usize, v: u8)
     let mut k = (1usize << deep) + p;
     let mut top: usize = 2 << deep;
     let mut w: usize = 1;
-    while w <= deep {
+    loop {
         k /= 2;
         top /= 2;
         w += 1;
         fields::move_field(bytes, top + k * w, w, v as u32, old as u32);
+        if k == 1 {
+            return;
+        }
     }
 }

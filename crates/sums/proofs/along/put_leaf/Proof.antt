@@ -10,26 +10,26 @@ use Rattle.words.proofs.Rooms.{bounds, room-same}
 use Rattle.words.proofs.Slots.{word-lt}
 use Rattle.sums.specs.inner.Summed.{Summed}
 use Rattle.sums.proofs.Counts.{leaf-bits}
-use Rattle.sums.proofs.Climbing.{Climbed, climb-none, climb-first, climb-takes, climb-fits, climb-step, climb-done, OnPath, path-first, path-up, path-top, OfSum, of-sum}
+use Rattle.sums.proofs.Climbing.{Climbed, climb-none, climb-first, climb-takes, climb-fits, climb-step, climb-done, OnPath, path-first, path-up, OfSum, of-sum}
 use Rattle.sums.proofs.along.put_leaf.Statement.{statement}
 use Rattle.sums.proofs.along.put_leaf.Tie as tie
 
 abbrev Inv-loop : tie.InvT-loop
-Inv-loop bytes₀ deep p v old k₀ top₀ w₀ bytes k top w = OnPath deep k top w × (1 ≤ w) × Climbed deep old v (k / 2) bytes₀ bytes
+Inv-loop bytes₀ deep p v old k₀ top₀ w₀ bytes k top w = OnPath deep k top w × (1 ≤ w) × (1 < k) × Climbed deep old v (k / 2) bytes₀ bytes
 
 abbrev μ-loop : tie.MeasureT-loop
 μ-loop bytes₀ deep p v old k₀ top₀ w₀ bytes k top w = k
 
-abbrev start : tie.In-loop Inv-loop μ-loop → tie.Start Inv-loop μ-loop
-start c = c .before .before .before .before .before .before .before .before .before .before
+abbrev start : tie.At-loop Inv-loop μ-loop → tie.Start Inv-loop μ-loop
+start c = c .before .before .before .before .before .before .before .before .before
 
 -- a turn's bytes have room
-room : (c : tie.In-loop Inv-loop μ-loop) → Room (start c .args .deep) (c .before .loop .bytes)
-room c = room-same (c .before .loop .inv .2 .long ∙ c .before .before .before .before .put-leaf-bit .kept .0) (start c .pre .0)
+room : (c : tie.At-loop Inv-loop μ-loop) → Room (start c .args .deep) (c .loop .bytes)
+room c = room-same (c .loop .inv .3 .long ∙ c .before .before .before .put-leaf-bit .kept .0) (start c .pre .0)
 
 -- the word above
-above : (c : tie.In-loop Inv-loop μ-loop) → let l = c .before .loop in OfSum (start c .args .deep) (l .k / 2) (l .top / 2) (l .w + 1) (l .bytes)
-above c = let l = c .before .loop in of-sum (room c) (path-up (l .inv .0) (omega arith)) (omega (arith, l .inv .1))
+above : (c : tie.At-loop Inv-loop μ-loop) → let l = c .loop in OfSum (start c .args .deep) (l .k / 2) (l .top / 2) (l .w + 1) (l .bytes)
+above c = let l = c .loop in of-sum (room c) (path-up (l .inv .0) (l .inv .2)) (omega (arith, l .inv .1))
 
 leaf-bit-requires : tie.Need-leaf-bit-requires Inv-loop μ-loop
 leaf-bit-requires c κs = search needs
@@ -53,48 +53,52 @@ loop-holds c =
     let e : 1 * 2 ^ D % 2 ^ 64 ≡ 2 ^ D = omega arith in (
       path-first (at-from (omega arith) (omega (arith, pow-next D))) (omega arith) (omega arith),
       omega arith,
+      omega arith,
       climb-first (s .pre .0) (s .pre .1) (s .pre .2) (s .pre .3) (c .before .before .before .before .before .leaf-bit .ensures) (omega arith) (c .before .before .put-leaf-bit .ensures),
     )
 
 -- of the two bits one is 0
-one : (c : tie.In-loop Inv-loop μ-loop) → start c .args .v + c .before .before .before .before .before .before .before .leaf-bit .result ≤ 1
+one : (c : tie.At-loop Inv-loop μ-loop) → start c .args .v + c .before .before .before .before .before .before .leaf-bit .result ≤ 1
 one c =
-    let e = c .before .before .before .before .before .before in
+    let e = c .before .before .before .before .before in
     omega (arith, start c .pre .3, e .if1 .left, e .before .leaf-bit .ensures, leaf-bits (start c .args .deep) (start c .args .bytes .now) (start c .args .p))
 
 move-field-requires : tie.Need-move-field-requires Inv-loop μ-loop
 move-field-requires c κs =
     let i = c .before in
     let h = above i in
-    let l = i .before .loop in
-    let t = climb-takes (l .inv .2) (h .low) (h .high) in (
+    let l = i .loop in
+    let t = climb-takes (l .inv .3) (h .low) (h .high) in (
       h .bytes,
       h .inside,
       omega arith,
       omega (arith, h .narrow),
-      omega (arith, h .get, h .most, one i, climb-fits (l .inv .2) (h .low) (h .high), word-lt (start i .args .deep) (l .bytes) (l .k / 2)),
+      omega (arith, h .get, h .most, one i, climb-fits (l .inv .3) (h .low) (h .high), word-lt (start i .args .deep) (l .bytes) (l .k / 2)),
       omega (arith, h .get),
     )
 
-loop-again : tie.Need-loop-again Inv-loop μ-loop
-loop-again c =
-    let f = c .before .before in
-    let i = f .before .before in
-    let l = i .before .loop in
-    let h = above i in (
-      path-up (l .inv .0) (omega arith),
-      omega arith,
-      climb-step (l .inv .2) (h .low) (h .high) (room i .long) (h .moved _ _ _ (f .move-field .ensures)),
-    )
+-- the word above has taken the change over
+up : (c : tie.After-move-field Inv-loop μ-loop) → let l = c .before .before in
+    Climbed (start l .args .deep) (l .before .before .before .before .before .before .leaf-bit .result) (start l .args .v) (l .loop .k / 2 / 2) (l .before .before .before .put-leaf-bit .last .0) (c .move-field .last .0)
+up c =
+    let l = c .before .before in
+    let h = above l in
+    climb-step (l .loop .inv .3) (h .low) (h .high) (room l .long) (h .moved _ _ _ (c .move-field .ensures))
 
 same-length : tie.Need-same-length-2 Inv-loop μ-loop
-same-length c = c .before .loop .inv .2 .long ∙ c .before .before .before .before .put-leaf-bit .kept .0
+same-length c = let f = c .before .before .before in up f .long ∙ f .before .before .before .before .before .put-leaf-bit .kept .0
 
 returns-2 : tie.Need-returns-2 Inv-loop μ-loop
 returns-2 c =
-    let l = c .before .loop in
-    let s = c .before .before .before .before .before .before .before .before .before .before in
-    subst (λ (x : List ℕ). Summed (s .args .deep) x (l .bytes)) (c .before .before .before .before .put-leaf-bit .ensures) (climb-done (l .inv .2) (path-top (l .inv .0) (omega arith)))
+    let f = c .before .before .before in
+    let l = f .before .before in
+    subst (λ (x : List ℕ). Summed (start l .args .deep) x (f .move-field .last .0)) (l .before .before .before .put-leaf-bit .ensures) (climb-done (up f) (omega (arith, c .if2 .taken)))
+
+loop-again : tie.Need-loop-again Inv-loop μ-loop
+loop-again c =
+    let f = c .before .before .before in
+    let l = f .before .before in
+    (path-up (l .loop .inv .0) (l .loop .inv .2), omega arith, omega (arith, c .if2 .left, above l .low), up f)
 
 pub put-leaf-spec : {M : Type 1} → statement M
 put-leaf-spec =
@@ -115,7 +119,7 @@ put-leaf-spec =
     (λ c. omega (arith, above (c .before) .small))
     (λ c. search needs)
     move-field-requires
-    (λ c. search needs)
-    loop-again
     same-length
-    returns-2)
+    returns-2
+    (λ c. omega (arith, c .before .before .before .before .before .loop .inv .2))
+    loop-again)
