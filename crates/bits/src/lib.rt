@@ -23,9 +23,8 @@ pub fn put_bit(bytes: &mut [u8], p: usize, v: u8)
     let i = p / 8;
     let k = p % 8;
     let b = bytes[i];
-    let high = (((b >> k) / 2) * 2 + v) << k;
-    let low = b % (1u8 << k);
-    bytes[i] = high + low;
+    let old = (b >> k) % 2;
+    bytes[i] = b - (old << k) + (v << k);
 }
 
 fn byte(bytes: &[u8], i: usize) -> u32
