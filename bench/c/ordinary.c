@@ -89,17 +89,6 @@ static inline struct around around(uint32_t node) {
 /* Algorithm 6, for a square. */
 struct around c_neighbours(uint32_t node) { return around(node); }
 
-/* The edge neighbour alone: the node's last digits turned over, two by two, up to the first two that differ. Where no two do but the first
-   ones of all, it lies across the diagonal, all digits but the first turned over, or there is none. A bit far up stands for no two. */
-static inline uint32_t edge(uint32_t node) {
-    uint32_t d = depth(node), differ = (uint32_t)__builtin_ctz(((node ^ node / 2) & 0x55555555) | 0x40000000);
-    if (differ + 3 <= d)
-        return node ^ (((uint32_t)4 << differ) - 1);
-    return d % 2 == 1 ? node ^ (((uint32_t)1 << d) - 1) : 0;
-}
-
-uint32_t c_edge(uint32_t node) { return edge(node); }
-
 struct triangle {
     uint32_t at[3][2];
 };
@@ -203,7 +192,7 @@ void c_split_along(uint8_t *bytes, uint32_t deep, uint32_t node) {
     for (;;) {
         pass_pin(bytes, deep, node, 2 * node + 1);
         change_along(bytes, deep, node, 1);
-        uint32_t across = edge(node), up = across / 2;
+        uint32_t across = around(node).edge, up = across / 2;
         if (across == 0)
             return;
         int was_cut = is_set(bytes, leaf_bit(deep, 2 * up + 1));
@@ -217,7 +206,7 @@ void c_split_along(uint8_t *bytes, uint32_t deep, uint32_t node) {
 
 /* Algorithm 8, unless a leaf that would go is pinned, with the words above each leaf bit that is cleared. */
 void c_merge_along(uint8_t *bytes, uint32_t deep, uint32_t node) {
-    uint32_t across = edge(node / 2);
+    uint32_t across = around(node / 2).edge;
     if (!may_merge(bytes, deep, node, across))
         return;
     change_along(bytes, deep, node / 2, (uint32_t)-1);

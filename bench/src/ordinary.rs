@@ -166,7 +166,7 @@ fn around(node: u32) -> Around {
     n
 }
 
-/// The edge neighbour alone: the node's last digits turned over, two by two, up to the first two that differ. Where no two do but the first
+/// The edge neighbour alone, which the paper has no algorithm for: the node's last digits turned over, two by two, up to the first two that differ. Where no two do but the first
 /// ones of all, it lies across the diagonal, all digits but the first turned over, or there is none.
 #[inline(always)]
 pub fn edge(node: u32) -> u32 {
@@ -409,7 +409,13 @@ fn pass_pin(bytes: &mut [u8], deep: u32, leaf: u32, right: u32) {
 /// Algorithm 7 up to the first node that is cut already: the place of each node to cut is handed to `cut`, and its right child gets the pin of
 /// the leaf that the node is or lies right below.
 #[inline(always)]
-fn cut_chain(bytes: &mut [u8], deep: u32, node: u32, mut cut: impl FnMut(&mut [u8], usize)) {
+fn cut_chain(
+    bytes: &mut [u8],
+    deep: u32,
+    node: u32,
+    edge: impl Fn(u32) -> u32,
+    mut cut: impl FnMut(&mut [u8], usize),
+) {
     let mut node = node;
     loop {
         pass_pin(bytes, deep, node, 2 * node + 1);
@@ -429,24 +435,43 @@ fn cut_chain(bytes: &mut [u8], deep: u32, node: u32, mut cut: impl FnMut(&mut [u
     }
 }
 
-/// Algorithm 7, with the words above each leaf bit that is set.
+/// Algorithm 7, with the words above each leaf bit that is set; neighbours by algorithm 6.
 #[no_mangle]
 #[inline(never)]
 pub fn ordinary_split_along(bytes: &mut [u8], deep: u32, node: u32) {
-    cut_chain(bytes, deep, node, |bytes, place| change_along(bytes, deep, place, 1));
+    let edge = |node| around(node).edge;
+    cut_chain(bytes, deep, node, edge, |bytes, place| change_along(bytes, deep, place, 1));
 }
 
-/// Algorithm 8, unless a leaf that would go is pinned, with the words above each leaf bit that is cleared.
+/// The same, with the edge neighbour alone.
 #[no_mangle]
 #[inline(never)]
-pub fn ordinary_merge_along(bytes: &mut [u8], deep: u32, node: u32) {
-    let across = edge(node / 2);
+pub fn ordinary_split_tuned(bytes: &mut [u8], deep: u32, node: u32) {
+    cut_chain(bytes, deep, node, edge, |bytes, place| change_along(bytes, deep, place, 1));
+}
+
+#[inline(always)]
+fn merge_with(bytes: &mut [u8], deep: u32, node: u32, across: u32) {
     if may_merge(bytes, deep, node, across) {
         change_along(bytes, deep, cut_place(deep, node / 2), -1);
         if across != 0 {
             change_along(bytes, deep, cut_place(deep, across), -1);
         }
     }
+}
+
+/// Algorithm 8, unless a leaf that would go is pinned, with the words above each leaf bit that is cleared; neighbours by algorithm 6.
+#[no_mangle]
+#[inline(never)]
+pub fn ordinary_merge_along(bytes: &mut [u8], deep: u32, node: u32) {
+    merge_with(bytes, deep, node, around(node / 2).edge);
+}
+
+/// The same, with the edge neighbour alone.
+#[no_mangle]
+#[inline(never)]
+pub fn ordinary_merge_tuned(bytes: &mut [u8], deep: u32, node: u32) {
+    merge_with(bytes, deep, node, edge(node / 2));
 }
 
 /// Places of the leaf bits that a split or a merge changes, and the bits that the others differ in from the first.
@@ -492,16 +517,16 @@ impl Places {
     }
 }
 
-/// Algorithm 7, with the words near node 1 written once for all cuts.
+/// The tuned version, with the words near node 1 written once for all cuts.
 #[no_mangle]
 #[inline(never)]
 pub fn ordinary_split_in_one_walk(bytes: &mut [u8], deep: u32, node: u32) {
     let mut places = Places::none();
-    cut_chain(bytes, deep, node, |_, place| places.push(place));
+    cut_chain(bytes, deep, node, edge, |_, place| places.push(place));
     places.change_in_one_walk(bytes, deep, 1);
 }
 
-/// Algorithm 8 likewise.
+/// The merge likewise.
 #[no_mangle]
 #[inline(never)]
 pub fn ordinary_merge_in_one_walk(bytes: &mut [u8], deep: u32, node: u32) {

@@ -11,7 +11,6 @@ pub trait Ordinary {
     fn corners(node: u32) -> Triangle;
     fn split(bytes: &mut [u8], deep: u32, node: u32);
     fn merge(bytes: &mut [u8], deep: u32, node: u32);
-    fn edge(node: u32) -> u32;
     fn split_along(bytes: &mut [u8], deep: u32, node: u32);
     fn merge_along(bytes: &mut [u8], deep: u32, node: u32);
 }
@@ -47,10 +46,6 @@ impl Ordinary for Rust {
         ordinary::ordinary_merge(bytes, deep, node);
     }
 
-    fn edge(node: u32) -> u32 {
-        ordinary::edge(node)
-    }
-
     fn split_along(bytes: &mut [u8], deep: u32, node: u32) {
         ordinary::ordinary_split_along(bytes, deep, node);
     }
@@ -79,7 +74,6 @@ mod raw {
         pub fn c_corners(node: u32) -> Triangle;
         pub fn c_split(bytes: *mut u8, deep: u32, node: u32);
         pub fn c_merge(bytes: *mut u8, deep: u32, node: u32);
-        pub fn c_edge(node: u32) -> u32;
         pub fn c_split_along(bytes: *mut u8, deep: u32, node: u32);
         pub fn c_merge_along(bytes: *mut u8, deep: u32, node: u32);
     }
@@ -113,10 +107,6 @@ impl Ordinary for C {
 
     fn merge(bytes: &mut [u8], deep: u32, node: u32) {
         unsafe { raw::c_merge(bytes.as_mut_ptr(), deep, node) }
-    }
-
-    fn edge(node: u32) -> u32 {
-        unsafe { raw::c_edge(node) }
     }
 
     fn split_along(bytes: &mut [u8], deep: u32, node: u32) {

@@ -107,9 +107,10 @@ cut-under-requires-2 c κs =
     let d = level b in
     (pins-at (a .pre .0) (a .pre .1) (work p), sums-at (a .pre .0) (a .pre .1) (work p), omega (arith, b .if1 .left), omega (arith, l .loop .inv .0 .deep), omega (arith, b .if1 .left), omega (arith, l .loop .inv .0 .deep))
 
--- where the parent is cut, all is done
-ended : (c : tie.After-cut-under2 Inv-loop μ-loop) → let a = start (c .before .before .before .before .before .before .before .before .before .before .before) .args in SplitAt (a .panel .now) (a .k .0) (c .cut-under2 .last .0)
-ended c =
+-- both are cut, and the neighbour's parent is next
+both : (c : tie.After-cut-under2 Inv-loop μ-loop) → let l = c .before .before .before .before .before .before .before .before .before .before .before in let s = start l .args .panel .now in
+    Splitting s (start l .args .k .0) (c .cut-under2 .last .0) (edge (l .loop .cur) / 2) × CutIn s (c .cut-under2 .last .0) (edge (l .loop .cur) / 2)
+both c =
     let t = c .before .before in
     let b = t .before .before .before in
     let p = b .before .before .before .before in
@@ -117,10 +118,14 @@ ended c =
     let a = start l in
     let G = a .pre .0 in
     let u : CutUnder (deepOf (a .args .panel .now)) (p .cut-under .last .0) (edge (l .loop .cur)) (edge (l .loop .cur)) (c .cut-under2 .last .0) =
-        subst (λ x. CutUnder (deepOf (a .args .panel .now)) (p .cut-under .last .0) x x (c .cut-under2 .last .0)) (b .before .edge-of .ensures) (under-at G (a .pre .1) (c .cut-under2 .ensures)) in
-    splitting-cut G
-    (splitting-step G (l .loop .inv .0) (low l) (l .loop .inv .1) (own p) (across b) (held-own G (l .loop .inv .0) (low l) (l .loop .inv .1) (own p) (across b) (cut t)) u)
-    (under-add G (work p) u (edge (l .loop .cur) / 2) .1 (inl (cut t)))
+    subst (λ x. CutUnder (deepOf (a .args .panel .now)) (p .cut-under .last .0) x x (c .cut-under2 .last .0)) (b .before .edge-of .ensures) (under-at G (a .pre .1) (c .cut-under2 .ensures)) in (
+      splitting-step G (l .loop .inv .0) (low l) (l .loop .inv .1) (own p) (across b) (held-own G (l .loop .inv .0) (low l) (l .loop .inv .1) (own p) (across b) (cut t)) u,
+      under-add G (work p) u (edge (l .loop .cur) / 2) .1 (inl (cut t)),
+    )
+
+-- that one is cut, so all is done
+ended : (c : tie.After-cut-under2 Inv-loop μ-loop) → let a = start (c .before .before .before .before .before .before .before .before .before .before .before) .args in SplitAt (a .panel .now) (a .k .0) (c .cut-under2 .last .0)
+ended c = splitting-cut (start (c .before .before .before .before .before .before .before .before .before .before .before) .pre .0) (both c .0) (both c .1)
 
 cut-under-requires-3 : tie.Need-cut-under-requires-3 Inv-loop μ-loop
 cut-under-requires-3 c κs =
@@ -143,6 +148,7 @@ loop-less c =
 loop-again : tie.Need-loop-again Inv-loop μ-loop
 loop-again c =
     let m = c .before .before in
+    let f = m .cut-under3 in
     let e = m .before .before in
     let b = e .before .before .before in
     let p = b .before .before .before .before in
@@ -151,11 +157,12 @@ loop-again c =
     let G = a .pre .0 in
     let i = b .before .edge-of .ensures in
     let s = a .args .panel .now in
-    let u : CutUnder (deepOf s) (p .cut-under .last .0) (edge (l .loop .cur)) (edge (l .loop .cur) / 2) (m .cut-under3 .last .0) =
-        subst (λ x. CutUnder (deepOf s) (p .cut-under .last .0) x (x / 2) (m .cut-under3 .last .0)) i (under-at G (a .pre .1) (m .cut-under3 .ensures)) in
-    subst⁻¹ (λ x. Splitting s (a .args .k .0) (m .cut-under3 .last .0) (x / 2) × (CutIn s (m .cut-under3 .last .0) (x / 2) → ⊥)) i
-    (splitting-step G (l .loop .inv .0) (low l) (l .loop .inv .1) (own p) (across b) (held-above G (l .loop .inv .0) (low l) (l .loop .inv .1) (own p) (across b) (uncut e)) u,
-    still-uncut G (work p) u (λ z. omega (arith, across b)) (uncut e))
+    let u : CutUnder (deepOf s) (p .cut-under .last .0) (edge (l .loop .cur)) (edge (l .loop .cur) / 2) (f .last .0) =
+    subst (λ x. CutUnder (deepOf s) (p .cut-under .last .0) x (x / 2) (f .last .0)) i (under-at G (a .pre .1) (f .ensures)) in
+    subst⁻¹ (λ x. Splitting s (a .args .k .0) (f .last .0) (x / 2) × (CutIn s (f .last .0) (x / 2) → ⊥)) i (
+      splitting-step G (l .loop .inv .0) (low l) (l .loop .inv .1) (own p) (across b) (held-above G (l .loop .inv .0) (low l) (l .loop .inv .1) (own p) (across b) (uncut e)) u,
+      still-uncut G (work p) u (λ z. omega (arith, across b)) (uncut e),
+    )
 
 pub split-leaf-spec : {M : Type 1} → statement M
 split-leaf-spec =
