@@ -7,6 +7,7 @@ use bench::sides::{Ordinary, Rust, C};
 use bench::timing::shortest;
 use bench::{ordinary, ours};
 
+use crate::ratios::ratio;
 use crate::records::{self, Change, Requests};
 
 const DEPTHS: [u32; 3] = [10, 14, DEEPEST];
@@ -103,12 +104,12 @@ fn print_row(deep: u32, turns: usize, long: Duration) {
     let (many, splits) = (changes.len(), changes.iter().filter(|change| change.split).count());
     let [round, single, rust, c] = a_record(&round, (turns, long), [&by_round, &by_single_calls, rust, c]);
     println!(
-        "| {deep} | {splits}, {} | {} | {round:.0} | {single:.0} | {rust:.0} | {c:.0} | **{:.2}** | {:.3} | {:.3} |",
+        "| {deep} | {splits}, {} | {} | {round:.0} | {single:.0} | {rust:.0} | {c:.0} | **{}** | {} | {} |",
         many - splits,
         requests.leaves(),
-        round / single,
-        round / rust,
-        round / c
+        ratio(round / single),
+        ratio(round / rust),
+        ratio(round / c)
     );
 }
 
