@@ -1,6 +1,6 @@
 -- The cuts that a merge takes back, and the leaves that it needs. What is left is the panel that the call promises.
-use mathlib.Core.Path.{_≡_, ap, _∙_, subst, subst⁻¹}
-use mathlib.Core.Logic.{_≢_, _⊎_, inl, inr, _↔_, Iff·symm, Iff·trans}
+use mathlib.Core.Path.{_≡_, _∙_, subst, subst⁻¹}
+use mathlib.Core.Logic.{_⊎_, inl, inr, Iff·symm}
 use mathlib.Core.List.{List}
 use Prim.Native.Nat.{ℕ, _+_, _*_, _/_, _<_}
 use native.Mathlib.Omega.{arith}

@@ -1,6 +1,6 @@
 -- The cuts of a split, one after the other: what is cut so far and what the next node forces are, together, what k forces, and each cut gets the pin of
 -- the old leaf above it. What is left is the panel that the call promises.
-use mathlib.Core.Path.{_≡_, sym, ap, _∙_, subst}
+use mathlib.Core.Path.{_≡_, refl, sym, ap, subst}
 use mathlib.Core.Logic.{_≢_, _⊎_, inl, inr, ⊎-elim, _↔_, Iff·symm}
 use mathlib.Core.List.{List}
 use Prim.Native.Nat.{ℕ, suc, _/_, _^_, _≤_, _<_}
@@ -117,7 +117,7 @@ module _ {s : List ℕ} (G : Good s) where
         held-own p = (0, own-leaf p, let e : edge m / 1 ≡ edge m = omega arith in e)
 
         pub held-above : (CutIn s xs (edge m / 2) → ⊥) → Held (edge m / 2)
-        held-above p = (1, parent-leaf p, let e : edge m / 2 ≡ edge m / 2 = omega arith in e)
+        held-above p = (1, parent-leaf p, refl)
 
         pub held-node : {l : ℕ} → Held l → (1 ≤ l) × (depthOf l ≤ deepOf s)
         held-node {l} (i, L, e) = (omega (arith, L .low), leaf-depth (deepOf s) (leafBit (deepOf s) s) (good-bits s G) l L)

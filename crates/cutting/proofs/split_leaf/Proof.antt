@@ -13,7 +13,7 @@ use Rattle.panel.specs.Panels.{deepOf}
 use Rattle.panel.specs.Calls.{SplitAt}
 use Rattle.cutting.specs.inner.Changing.{CutUnder}
 use Rattle.cutting.proofs.AtWork.{AtWork, CutIn, work-under, under-add, room-at, sums-at, pins-at, under-at, cut-at}
-use Rattle.cutting.proofs.Splitting.{Splitting, splitting-start, splitting-node, splitting-low, splitting-cut, splitting-last, Held, held-own, held-above, held-node, parent-node, splitting-step, still-uncut, across-above}
+use Rattle.cutting.proofs.Splitting.{Splitting, splitting-start, splitting-node, splitting-low, splitting-cut, splitting-last, held-own, held-above, held-node, parent-node, splitting-step, still-uncut, across-above}
 use Rattle.cutting.proofs.split_leaf.Statement.{statement}
 use Rattle.cutting.proofs.split_leaf.Tie as tie
 

@@ -1,7 +1,7 @@
 -- The window holds the field, so storing the window with so much more and less at the field's lowest digit is putting the field so changed.
 -- Where it would end behind the bytes, the field is read and put.
 use mathlib.Core.Path.{_≡_, sym, ap, ap₂, _∙_}
-use Prim.Native.Nat.{ℕ, _+_, _-_, _*_, _/_, _%_, _^_, _≤_, _<_}
+use Prim.Native.Nat.{ℕ, _+_, _-_, _*_, _/_, _%_, _^_}
 use native.Mathlib.Omega.{arith}
 use lib.Pow.{pow-mono}
 use Rattle.bits.specs.Bits.{field}

@@ -8,7 +8,6 @@ use Rattle.cuts.specs.Cuts.{sibling}
 use Rattle.panel.specs.Panels.{CutOf}
 use Rattle.panel.proofs.Lengths.{good-room}
 use Rattle.descents.proofs.Downward.{says-cut}
-use borrow.Author.Needs.{needs}
 use Rattle.leaves.proofs.leaf_beside.Statement.{statement}
 use Rattle.leaves.proofs.leaf_beside.Tie as tie
 
