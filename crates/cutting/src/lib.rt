@@ -12,7 +12,7 @@ ghost use Rattle.panel.specs.Panels.{deepOf, Good, LeafOf};
 ghost use Rattle.panel.specs.Calls.{SplitAt, Together, Unpinned, MergeAt};
 ghost use Rattle.cutting.specs.inner.Changing.{CutPut, CutUnder};
 
-// Sets or clears the leaf bit that names n.
+// Sets or clears the leaf bit that names n, with the sums above it.
 fn put_cut(panel: &mut [u8], deep: usize, n: Node, v: u8)
     requires { ⌜ Room deep (now panel) × SumsRight deep (now panel) × (1 ≤ n .0) × (depthOf (n .0) < deep) × (v < 2) ⌝ }
     ensures { λ _. ⌜ CutPut deep (now (panel .entry)) (n .0) v (now (panel .exit)) ⌝ }
