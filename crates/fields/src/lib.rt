@@ -1,7 +1,7 @@
 // Fields of bits in lent bytes. One of any place goes through a window of four bytes that always lies inside: four bytes hold a field
 // of up to 25 bits wherever in a byte it starts, fields to 24 bits and one bit to spare. One of whole bytes needs no window.
 ghost use mathlib.Core.Path.{_≡_};
-ghost use Prim.Native.Nat.{_+_, _-_, _*_, _^_, _≤_, _<_};
+ghost use Prim.Native.Nat.{_+_, _-_, _*_, _/_, _^_, _≤_, _<_};
 ghost use lib.ListN.{length};
 ghost use Rattle.bits.specs.Bits.{field};
 ghost use Rattle.bits.specs.inner.Puts.{putField};
@@ -39,18 +39,12 @@ pub fn put_field(bytes: &mut [u8], s: usize, w: usize, v: u32)
     bits::store_four(bytes, i, (((high << w) + v) << k) + low);
 }
 
-// Adds up to the number in the w bits from bit s on, and takes down from it: in the window that starts with the field's first byte, wherever
-// that one lies inside.
+// Adds up to the number in the w bits from bit s on, and takes down from it, in the four bytes from the field's first on: these lie inside.
 pub fn move_field(bytes: &mut [u8], s: usize, w: usize, up: u32, down: u32)
-    requires { ⌜ (4 ≤ length (now bytes)) × (s + w ≤ 8 * length (now bytes)) × (0 < w) × (w ≤ 25) × (field (now bytes) s w + up < 2 ^ w) × (down ≤ field (now bytes) s w + up) ⌝ }
+    requires { ⌜ (s / 8 + 4 ≤ length (now bytes)) × (0 < w) × (w ≤ 25) × (field (now bytes) s w + up < 2 ^ w) × (down ≤ field (now bytes) s w + up) ⌝ }
     ensures { λ _. ⌜ now (bytes .exit) ≡ putField (now (bytes .entry)) s w (field (now (bytes .entry)) s w + up - down) ⌝ }
 {
     let i = s / 8;
-    if bytes.len() - 4 < i {
-        let v = get_field(bytes, s, w);
-        put_field(bytes, s, w, v + up - down);
-        return;
-    }
     let k = s - 8 * i;
     let n = bits::get_four(bytes, i);
     bits::store_four(bytes, i, n + (up << k) - (down << k));

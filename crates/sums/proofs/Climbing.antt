@@ -6,7 +6,7 @@ use Prim.Native.Nat.{ℕ, zero, suc, _+_, _-_, _*_, _/_, _%_, _^_, _≤_, _<_}
 use native.Mathlib.Decide.{ℕ-discrete}
 use native.Mathlib.Omega.{arith}
 use lib.ListN.{length}
-use lib.Pow.{pow-mono, pow-pos}
+use lib.Pow.{pow-add, pow-mono, pow-pos}
 use Rattle.bits.specs.Bits.{bit, field}
 use Rattle.bits.specs.inner.Puts.{putField}
 use Rattle.bits.proofs.Laws.{le-or-lt, bit-put-other}
@@ -170,6 +170,7 @@ pub record OfSum (D k top w : ℕ) (bs : List ℕ) : Type 0 where
   pub small : top + k * w ≤ 524288
   pub inside : top + k * w + w ≤ 8 * length bs
   pub bytes : 4 ≤ length bs
+  pub roomy : 5 ≤ D → (top + k * w) / 8 + 4 ≤ length bs
   pub most : 2 ^ wide D k ≡ 2 ^ w
   pub get : field bs (top + k * w) w ≡ word D bs k
   pub moved : (u v : ℕ) (zs : List ℕ) → zs ≡ putField bs (top + k * w) w (field bs (top + k * w) w + v - u) → zs ≡ putWord D bs k (word D bs k + v - u)
@@ -191,6 +192,7 @@ of-sum {D} {k} {top} {w} {bs} room o some =
       small = omega (arith, bounds room);
       inside = omega (arith, room .long);
       bytes = room-bytes room;
+      roomy = λ l. omega (arith, i, room .long, pow-add 2 D 2, pow-mono {i = 5} {j = D} l, apart D k (2 ^ D) h (omega (arith, pow-next D)), from-leaf D);
       most = ap (λ (y : ℕ). 2 ^ y) x;
       get = ap₂ (field bs) (sym i) (sym x);
       moved = λ u v zs e. e ∙ ap₂ (λ (y z : ℕ). putField bs y z (field bs y z + v - u)) (sym i) (sym x);

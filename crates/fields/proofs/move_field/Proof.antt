@@ -1,54 +1,33 @@
 -- The window holds the field, so storing the window with so much more and less at the field's lowest digit is putting the field so changed.
--- Where it would end behind the bytes, the field is read and put.
 use mathlib.Core.Path.{_≡_, sym, ap, ap₂, _∙_}
 use Prim.Native.Nat.{ℕ, _+_, _-_, _*_, _/_, _%_, _^_}
 use native.Mathlib.Omega.{arith}
-use lib.Pow.{pow-mono}
 use Rattle.bits.specs.Bits.{field}
-use Rattle.bits.specs.inner.Puts.{putField, putLittle}
+use Rattle.bits.specs.inner.Puts.{putLittle}
 use Rattle.bits.proofs.Windows.{withField, field-window, put-window, Moved, moved}
 use borrow.Author.Needs.{needs}
 use Rattle.fields.proofs.move_field.Statement.{statement}
 use Rattle.fields.proofs.move_field.Tie as tie
 
 -- the number in the field
-got : (c : tie.After-get-four) → let a = c .before .before .before .before .args in
+got : (c : tie.After-get-four) → let a = c .before .before .before .args in
     field (a .bytes .now) (a .s) (a .w) ≡ c .get-four .result / 2 ^ (a .s - 8 * (a .s / 8)) % 2 ^ a .w
 got c =
-    let k = c .before .before .before in
+    let k = c .before .before in
     let a = k .before .args in
     field-window (a .bytes .now) (λ j. k .slice-known .given j .fits) (a .s) (a .w) (a .s / 8) 4 (omega arith) (omega arith)
     ∙ ap (λ (x : ℕ). x / 2 ^ (a .s - 8 * (a .s / 8)) % 2 ^ a .w) (sym (c .get-four .ensures))
 
 -- and what becomes of it
-change : (c : tie.After-get-four) → let a = c .before .before .before .before .args in Moved (c .get-four .result) (a .s - 8 * (a .s / 8)) (a .w) (a .up) (a .down)
+change : (c : tie.After-get-four) → let a = c .before .before .before .args in Moved (c .get-four .result) (a .s - 8 * (a .s / 8)) (a .w) (a .up) (a .down)
 change c =
-    let s = c .before .before .before .before in
-    moved (c .get-four .result) (s .args .s - 8 * (s .args .s / 8)) (s .args .w) (s .args .up) (s .args .down) (c .get-four .ok) (omega arith) (omega arith) (omega (arith, got c, s .pre .4)) (omega (arith, got c, s .pre .5))
-
-add-put-field : tie.Need-add-put-field
-add-put-field c =
-    let f = c .before in
-    let a = f .before .before .before .before in
-    omega (arith, f .get-field .ensures, a .pre .4, pow-mono {i = a .args .w} {j = 25} (omega arith))
-
-put-field-requires : tie.Need-put-field-requires
-put-field-requires c κs =
-    let f = c .before in
-    let a = f .before .before .before .before in
-    (omega arith, omega arith, omega arith, omega arith, omega (arith, f .get-field .ensures, a .pre .4))
+    let s = c .before .before .before in
+    moved (c .get-four .result) (s .args .s - 8 * (s .args .s / 8)) (s .args .w) (s .args .up) (s .args .down) (c .get-four .ok) (omega arith) (omega arith) (omega (arith, got c, s .pre .3)) (omega (arith, got c, s .pre .4))
 
 returns : tie.Need-returns
 returns c =
-    let p = c .before .before in
-    let f = p .before .before in
-    let a = f .before .before .before .before .args in
-    p .put-field .ensures ∙ ap (λ (x : ℕ). putField (a .bytes .now) (a .s) (a .w) (x + a .up - a .down)) (f .get-field .ensures)
-
-returns-2 : tie.Need-returns-2
-returns-2 c =
     let w = c .before .before .before .before in
-    let k = w .before .before .before in
+    let k = w .before .before in
     let a = k .before .args in
     let v = field (a .bytes .now) (a .s) (a .w) + a .up - a .down in
     c .before .before .store-four .ensures
@@ -61,13 +40,6 @@ move-field-spec =
     tie.close
     (tie.spec
     (λ c. search needs)
-    (λ c κs. search needs)
-    add-put-field
-    (λ c. omega (arith, c .before .get-field .ensures, c .before .before .before .before .before .pre .5))
-    put-field-requires
-    (λ c. search needs)
-    returns
-    (λ c. search needs)
     (λ c. search needs)
     (λ c κs. search needs)
     (λ c. omega arith)
@@ -78,4 +50,4 @@ move-field-spec =
     (λ c. change (c .before) .takes)
     (λ c κs. search needs)
     (λ c. search needs)
-    returns-2)
+    returns)

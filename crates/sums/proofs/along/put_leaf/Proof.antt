@@ -63,14 +63,15 @@ one c =
     let e = c .before .before .before .before .before in
     omega (arith, start c .pre .3, e .if1 .left, e .before .leaf-bit .ensures, leaf-bits (start c .args .deep) (start c .args .bytes .now) (start c .args .p))
 
-move-field-requires : tie.Need-move-field-requires Inv-loop μ-loop
-move-field-requires c κs =
+move-sum-requires : tie.Need-move-sum-requires Inv-loop μ-loop
+move-sum-requires c κs =
     let i = c .before in
     let h = above i in
     let l = i .loop in
     let t = climb-takes (l .inv .3) (h .low) (h .high) in (
       h .bytes,
       h .inside,
+      h .roomy,
       omega arith,
       omega (arith, h .narrow),
       omega (arith, h .get, h .most, one i, climb-fits (l .inv .3) (h .low) (h .high), word-lt (start i .args .deep) (l .bytes) (l .k / 2)),
@@ -78,12 +79,12 @@ move-field-requires c κs =
     )
 
 -- the word above has taken the change over
-up : (c : tie.After-move-field Inv-loop μ-loop) → let l = c .before .before in
-    Climbed (start l .args .deep) (l .before .before .before .before .before .before .leaf-bit .result) (start l .args .v) (l .loop .k / 2 / 2) (l .before .before .before .put-leaf-bit .last .0) (c .move-field .last .0)
+up : (c : tie.After-move-sum Inv-loop μ-loop) → let l = c .before .before in
+    Climbed (start l .args .deep) (l .before .before .before .before .before .before .leaf-bit .result) (start l .args .v) (l .loop .k / 2 / 2) (l .before .before .before .put-leaf-bit .last .0) (c .move-sum .last .0)
 up c =
     let l = c .before .before in
     let h = above l in
-    climb-step (l .loop .inv .3) (h .low) (h .high) (room l .long) (h .moved _ _ _ (c .move-field .ensures))
+    climb-step (l .loop .inv .3) (h .low) (h .high) (room l .long) (h .moved _ _ _ (c .move-sum .ensures))
 
 same-length : tie.Need-same-length-2 Inv-loop μ-loop
 same-length c = let f = c .before .before .before in up f .long ∙ f .before .before .before .before .before .put-leaf-bit .kept .0
@@ -92,7 +93,7 @@ returns-2 : tie.Need-returns-2 Inv-loop μ-loop
 returns-2 c =
     let f = c .before .before .before in
     let l = f .before .before in
-    subst (λ (x : List ℕ). Summed (start l .args .deep) x (f .move-field .last .0)) (l .before .before .before .put-leaf-bit .ensures) (climb-done (up f) (omega (arith, c .if2 .taken)))
+    subst (λ (x : List ℕ). Summed (start l .args .deep) x (f .move-sum .last .0)) (l .before .before .before .put-leaf-bit .ensures) (climb-done (up f) (omega (arith, c .if2 .taken)))
 
 loop-again : tie.Need-loop-again Inv-loop μ-loop
 loop-again c =
@@ -118,7 +119,7 @@ put-leaf-spec =
     (λ c. omega (arith, above (c .before) .small))
     (λ c. omega (arith, above (c .before) .small))
     (λ c. search needs)
-    move-field-requires
+    move-sum-requires
     same-length
     returns-2
     (λ c. omega (arith, c .before .before .before .before .before .loop .inv .2))
