@@ -2,27 +2,29 @@
 use mathlib.Core.Path.{_≡_, refl, sym, ap, ap₂, _∙_, subst, subst⁻¹}
 use mathlib.Core.Bool.{Bool, true, false}
 use mathlib.Core.List.{List}
+use mathlib.Core.Logic.{_↔_}
 use Prim.Native.Nat.{ℕ, suc, _+_, _-_, _*_, _/_, _%_, _^_, _≤_, _<_}
-use native.Mathlib.Nat.{mul-add, mul-one, mul-assoc, one-mul}
+use native.Mathlib.Nat.{mul-add, mul-one, mul-assoc, one-mul, mod-lt}
+use native.Mathlib.Decide.{decLt}
 use native.Mathlib.Omega.{arith}
+use lib.Bits.{bitAnd, and-zero-r, and-block, and-mask}
 use lib.ListN.{length}
-use lib.Pow.{pow-mono, pow-pos}
-use Rattle.bits.specs.Bits.{field}
-use Rattle.bits.proofs.Laws.{field-lt}
+use lib.Pow.{pow-mono, pow-pos, split}
+use Rattle.bits.specs.Bits.{bit, field}
+use Rattle.bits.proofs.Laws.{bit-lt, field-lt}
 use Rattle.nodes.specs.Depth.{depthOf}
-use Rattle.tables.specs.inner.Says.{Says}
-use Rattle.nodes.proofs.Depths.{pow-next, at-root, at-depth, depth-is, depth-left, depth-right, depth-half, below-depth}
+use Rattle.nodes.proofs.Depths.{At, pow-next, at-root, at-from, at-ancestor, depth-is, depth-left, depth-right, below-depth}
 use Rattle.words.specs.Words.{width, word, leafBit}
 use Rattle.words.specs.inner.Working.{Room}
 use Rattle.words.proofs.Slots.{from, wide, packed, in-panel}
 use Rattle.panel.specs.Panels.{deepOf, CutOf, Good, LeafOf, numberIn, leafCount}
-use Rattle.descents.specs.inner.Descents.{OnWay, Reached, Spot, Picked}
+use Rattle.descents.specs.inner.Descents.{OnWay, Passed, NamedAt, Spot, Picked}
 use Rattle.words.proofs.Rooms.{room-bytes}
 use Rattle.panel.proofs.Lengths.{fits-small, good-room}
-use Rattle.cuts.specs.Cuts.{Cut}
-use Rattle.cuts.proofs.Places.{cut-depth}
-use Rattle.cuts.proofs.Covering.{ancestor-is}
-use Rattle.cuts.proofs.Descent.{reached-left, reached-right, reached-leaf}
+use Rattle.cuts.proofs.Places.{cut-depth, cut-set}
+use Rattle.cuts.proofs.Naming.{Placed, placed}
+use Rattle.cuts.proofs.Covering.{ancestor-is, up-all}
+use Rattle.cuts.proofs.Descent.{reached-left, reached-right}
 use Rattle.panel.proofs.GoodPanels.{good-bits, cut-word, reached-word, leaf-word-one, number-root, number-left, number-right}
 
 -- where the words of a node's children stand
@@ -177,41 +179,111 @@ fewer {c = true} t f h rest past = (omega (arith, past .yes refl), omega (arith,
 fewer {c = false} t f h rest past = (omega (arith, f refl, past .no refl), omega (arith, f refl, rest .no refl, past .no refl))
 
 -- the node above that on the way to n
-half : (n left : ℕ) → 1 ≤ left → n / 2 ^ left ≡ n / 2 ^ (left - 1) / 2
-half n left o = ap (λ x. n / 2 ^ x) (let e : left ≡ suc (left - 1) = omega arith in e) ∙ sym (ancestor-is (suc (left - 1)) n) ∙ ap (λ x. x / 2) (ancestor-is (left - 1) n)
+half-of : (n left : ℕ) → 1 ≤ left → n / 2 ^ left ≡ n / 2 ^ (left - 1) / 2
+half-of n left o = ap (λ x. n / 2 ^ x) (let e : left ≡ suc (left - 1) = omega arith in e) ∙ sym (ancestor-is (suc (left - 1)) n) ∙ ap (λ x. x / 2) (ancestor-is (left - 1) n)
 
 -- the node on the way to n, one level down
 pub next : (n left : ℕ) (c : Bool) → 1 ≤ left → (c ≡ true → n / 2 ^ (left - 1) % 2 ≡ 0) → (c ≡ false → n / 2 ^ (left - 1) % 2 ≡ 0 → ⊥) →
     Picked c (2 * (n / 2 ^ left)) (2 * (n / 2 ^ left) + 1) (n / 2 ^ (left - 1))
-next n left c o t f = record { yes = λ e. omega (arith, half n left o, t e); no = λ e. omega (arith, half n left o, f e) }
+next n left c o t f = record { yes = λ e. omega (arith, half-of n left o, t e); no = λ e. omega (arith, half-of n left o, f e) }
 
 -- ---- by cuts alone
 
--- a test of a cut, told by an equal depth
-pub says-cut : (s : List ℕ) {D k : ℕ} {b : Bool} → D ≡ deepOf s → Says (Cut D (leafBit D s) k) b → Says (CutOf s k) b
-says-cut s {D} {k} {b} e t = subst (λ x. Says (Cut x (leafBit x s) k) b) e t
+-- a digit of n, where it stands
+digit : (n j : ℕ) → bitAnd n (2 ^ j) ≡ n / 2 ^ j % 2 * 2 ^ j
+digit n j =
+    ap₂ bitAnd (sym (split n j)) (let e : 2 ^ j ≡ 1 * 2 ^ j + 0 = omega arith in e)
+    ∙ and-block j (n / 2 ^ j) 1 (n % 2 ^ j) 0 (mod-lt n (pow-pos j)) (pow-pos j)
+    ∙ ap₂ (λ (x y : ℕ). x * 2 ^ j + y) (and-mask (n / 2 ^ j) 1) (and-zero-r (n % 2 ^ j))
+    ∙ omega arith
 
-module _ {s : List ℕ} (G : Good s) (left n : ℕ) (R : Reached s left (n / 2 ^ left)) where
-  -- a node that is reached and not cut is a leaf
-  pub stop-uncut : (CutOf s (n / 2 ^ left) → ⊥) → OnWay s n (n / 2 ^ left) (numberIn s (n / 2 ^ left))
-  stop-uncut z = record {
-    leaf = reached-leaf (deepOf s) (leafBit (deepOf s) s) (good-bits s G) (depthOf (n / 2 ^ left)) left (n / 2 ^ left) (at-depth (R .low)) (R .levels) (R .reached) z;
-    number = refl;
-    over = ap (λ x. n / 2 ^ x) (let f : deepOf s - depthOf (n / 2 ^ left) ≡ left = omega (arith, R .levels) in f);
-  }
+module _ {s : List ℕ} (G : Good s) {left n c : ℕ} (P : Passed s left n c) where
+  -- the node j levels above n
+  on : (j : ℕ) → j ≤ deepOf s → At (deepOf s - j) (n / 2 ^ j)
+  on j h =
+      subst (At (deepOf s - j)) (ancestor-is j n)
+      (at-ancestor j (deepOf s - j) (subst (λ (x : ℕ). At x n) (let e : deepOf s ≡ deepOf s - j + j = omega arith in e) (at-from (P .low) (P .high))))
 
-  -- no node of depth D is cut
-  pub stop-deep : left ≡ 0 → OnWay s n (n / 2 ^ left) (numberIn s (n / 2 ^ left))
-  stop-deep e =
-      stop-uncut (λ c. omega (arith, cut-depth (deepOf s) (leafBit (deepOf s) s) (good-bits s G .deep) (n / 2 ^ left) c, R .levels))
+  -- ---- one step
 
-  -- below one that is cut its child on the way is reached
-  pub go-down : 1 ≤ left → CutOf s (n / 2 ^ left) → Reached s (left - 1) (n / 2 ^ (left - 1))
-  go-down o c =
-      let m : ℕ = n / 2 ^ (left - 1) in
-      let h : n / 2 ^ left ≡ m / 2 = half n left o in
-      let l : 2 ≤ m = omega (arith, R .low) in
-      record { low = omega arith; levels = omega (arith, depth-half m l, ap depthOf h, R .levels); reached = λ _. subst (CutOf s) h c }
+  module _ (o : 1 ≤ left) where
+    -- a node that is not cut: as many as before
+    pub passed-uncut : (CutOf s (n / 2 ^ left) → ⊥) → Passed s (left - 1) n c
+    passed-uncut z = record { low = P .low; high = P .high; most = omega (arith, P .most); cut = P .cut; uncut = λ h. go (decLt (c + left) (deepOf s)) }
+      where
+        go : Dec (c + left < deepOf s) → CutOf s (n / 2 ^ (deepOf s - c)) → ⊥
+        go (yes h) q = P .uncut h q
+        go (no h) q = z (subst (λ (x : ℕ). CutOf s (n / 2 ^ x)) (let e : deepOf s - c ≡ left = omega (arith, P .most) in e) q)
+
+    -- one that is: no leaf lies above it, so all before it are
+    pub passed-cut : CutOf s (n / 2 ^ left) → Passed s (left - 1) n (c + 1)
+    passed-cut q = go (decLt (c + left) (deepOf s))
+      where
+        go : Dec (c + left < deepOf s) → Passed s (left - 1) n (c + 1)
+        go (yes h) =
+            let j : ℕ = deepOf s - c in
+            absurd (P .uncut h (subst (CutOf s) (ancestor-is j n)
+            (up-all (G .cuts .up) n left j (omega (arith, P .most)) (omega (arith, ancestor-is j n, on j (omega arith) .low, pow-pos (deepOf s - j))) (subst⁻¹ (CutOf s) (ancestor-is left n) q))))
+        go (no h) = record {
+          low = P .low;
+          high = P .high;
+          most = omega (arith, P .most);
+          cut = λ _. subst (λ (x : ℕ). CutOf s (n / 2 ^ x)) (let e : left ≡ deepOf s + 1 - (c + 1) = omega (arith, P .most) in e) q;
+          uncut = λ l. absurd (omega arith);
+        }
+
+    -- ---- the bit that names the node
+
+    module _ {p half : ℕ} (N : NamedAt s left p half (n / 2 ^ left)) where
+      names : Placed (deepOf s) (n / 2 ^ left) (left - 1)
+      names =
+          let a = on left (omega (arith, P .most)) in
+          placed (deepOf s) (n / 2 ^ left) (left - 1) (fits-small (G .fits)) (omega (arith, a .low, pow-pos (deepOf s - left))) (omega (arith, depth-is a, P .most))
+
+      place : ℕ
+      place = (2 * (n / 2 ^ left) + 1) * 2 ^ (left - 1) - 2 ^ deepOf s
+
+      at-place : p ≡ 3 * 2 ^ deepOf s + place
+      unfolding place
+      at-place = omega (arith, N .place, ap (λ (x : ℕ). (2 * (n / 2 ^ left) + 1) * x) (N .below), names .first)
+
+      pub inside : p < 4 * 2 ^ deepOf s
+      unfolding place
+      inside = omega (arith, at-place, names .found .high)
+
+      pub back : half ≤ p
+      back = omega (arith, N .place)
+
+      -- it says whether the node is cut
+      says : CutOf s (n / 2 ^ left) ↔ (bit s p ≡ 1)
+      unfolding leafBit place
+      says = subst⁻¹ (λ (x : ℕ). CutOf s (n / 2 ^ left) ↔ (bit s x ≡ 1)) at-place (cut-set (deepOf s) (leafBit (deepOf s) s) (good-bits s G .deep) (names .found))
+
+      pub passed-bit : Passed s (left - 1) n (c + bit s p)
+      passed-bit = go (decLt (bit s p) 1)
+        where
+          go : Dec (bit s p < 1) → Passed s (left - 1) n (c + bit s p)
+          go (yes h) = subst (Passed s (left - 1) n) (let e : c ≡ c + bit s p = omega arith in e) (passed-uncut (λ q. omega (arith, says .0 q)))
+          go (no h) =
+              let b : bit s p ≡ 1 = omega (arith, bit-lt s p) in
+              subst (λ (x : ℕ). Passed s (left - 1) n (c + x)) (sym b) (passed-cut (says .1 b))
+
+      -- and where the child's is
+      pub named-next : 2 ≤ left → NamedAt s (left - 1) (p + bitAnd n half - half / 2) (half / 2) (n / 2 ^ (left - 1))
+      named-next l = record {
+        place =
+            let q : ℕ = half / 2 in
+            let b : ℕ = n / 2 ^ (left - 1) % 2 in
+            let k : ℕ = n / 2 ^ left in
+            let e : half ≡ 2 * q = omega (arith, twice) in
+            let f : bitAnd n half ≡ b * half = ap (bitAnd n) (N .below) ∙ digit n (left - 1) ∙ ap (λ (x : ℕ). b * x) (sym (N .below)) in
+            let g : n / 2 ^ (left - 1) ≡ 2 * k + b = omega (arith, half-of n left o) in
+            omega (arith, N .place, f, ap (λ (x : ℕ). (2 * k + 1) * x) e, ap (λ (x : ℕ). b * x) e, ap (λ (x : ℕ). (2 * x + 1) * q) g);
+        below = omega (arith, twice);
+      }
+        where
+          twice : half ≡ 2 * 2 ^ (left - 1 - 1)
+          twice = N .below ∙ ap (λ (x : ℕ). 2 ^ x) {x = left - 1} {y = left - 1 - 1 + 1} (omega arith) ∙ pow-next (left - 1 - 1)
 
 -- ---- node 1, in a panel of depth D
 

@@ -1,14 +1,13 @@
 // Going down from node 1 of a good panel to a leaf. Each step is the last thing that a call does, the panel behind one reference: the
 // compiler makes a loop of it, which needs no stack. What comes back is a plain number: a struct comes back through memory, level by level,
 // and no loop can be made of that.
-use cuts::is_cut_above;
 use nodes::LeafNumber;
 use nodes::Node;
 ghost use mathlib.Core.Path.{_≡_};
-ghost use Prim.Native.Nat.{_+_, _/_, _^_, _<_};
-ghost use Rattle.panel.specs.Panels.{deepOf, Good, numberIn};
+ghost use Prim.Native.Nat.{_+_, _-_, _/_, _^_, _≤_, _<_};
+ghost use Rattle.panel.specs.Panels.{Good, numberIn};
 ghost use Rattle.panel.specs.Calls.{LeafNumbered};
-ghost use Rattle.descents.specs.inner.Descents.{OnWay, Picked, Reached, Spot};
+ghost use Rattle.descents.specs.inner.Descents.{NamedAt, OnWay, Passed, Picked, Spot};
 
 // One of two numbers: a where c holds, else b. A step down picks each number of the child so: no jump to guess is left.
 fn pick(c: bool, a: u32, b: u32) -> u32
@@ -76,18 +75,33 @@ pub fn leaf_over(
     leaf_over(panel, left - 1, at, leaves, LeafNumber(passed), n, number)
 }
 
-// The same leaf without its number, by cuts alone: the first node on the way to n that is not cut. The way has come to the node `left` levels
-// above n.
-pub fn uncut_over(panel: &&[u8], deep: usize, left: usize, n: Node) -> u32
-    requires { ⌜ Good (now (now panel)) × (deep ≡ deepOf (now (now panel))) × Reached (now (now panel)) left (n .0 / 2 ^ left) ⌝ }
-    ensures { λ r. ⌜ OnWay (now (now (panel .entry))) (n .0) r (numberIn (now (now (panel .entry))) r) ⌝ }
+// How many nodes are cut on the way to n, a node of depth D, as far as that `last` levels above it. The way has come to the node `left` levels
+// above n, with `before` cut nodes behind it; bit `at` of the panel is the leaf bit that names its cut, and `half` places lie below each of its
+// children. The digit of n that `half` stands for says to which child the way goes on, whose bit lies half as many places further on or back.
+pub fn cuts_toward(
+    panel: &&[u8],
+    left: usize,
+    last: usize,
+    at: usize,
+    half: usize,
+    n: Node,
+    before: u32,
+) -> u32
+    requires { ⌜ Good (now (now panel)) × (1 ≤ last) × (last ≤ left) × Passed (now (now panel)) left (n .0) before × NamedAt (now (now panel)) left at half (n .0 / 2 ^ left) ⌝ }
+    ensures { λ r. ⌜ Passed (now (now (panel .entry))) (last - 1) (n .0) r ⌝ }
 {
-    let k = n.0 >> left;
-    if left == 0 {
-        return k;
+    let cut = before + bits::get_bit(*panel, at) as u32;
+    if left == last {
+        return cut;
     }
-    if !is_cut_above(*panel, deep, Node(k), left - 1) {
-        return k;
-    }
-    uncut_over(panel, deep, left - 1, n)
+    let quarter = half / 2;
+    cuts_toward(
+        panel,
+        left - 1,
+        last,
+        at + (n.0 as usize & half) - quarter,
+        quarter,
+        n,
+        cut,
+    )
 }

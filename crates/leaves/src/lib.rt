@@ -3,9 +3,9 @@ use answers::Answer;
 use answers::Numbered;
 use answers::Refusal;
 use cuts::is_cut;
+use descents::cuts_toward;
 use descents::leaf_below;
 use descents::leaf_over;
-use descents::uncut_over;
 use nodes::LeafNumber;
 use nodes::Node;
 ghost use mathlib.Core.Path.{_≡_};
@@ -14,9 +14,9 @@ ghost use Rattle.tables.specs.inner.Says.{Says};
 ghost use Rattle.tables.specs.Table.{Answers};
 ghost use Rattle.answers.specs.Refusals.{answerNumber, answerAncestor, numberedNumber, numberedLeaf, numberedAncestor};
 ghost use Rattle.cuts.specs.Cuts.{sibling};
-ghost use Rattle.panel.specs.Panels.{deepOf, Good, InRange, LeafOf, numberIn, leafCount};
+ghost use Rattle.panel.specs.Panels.{deepOf, Good, InRange, LeafOf, leafCount};
 ghost use Rattle.panel.specs.Calls.{LeafNumbered, leafRows, Ancestor, NumberOf};
-ghost use Rattle.leaves.specs.inner.Ways.{OnFirstWay, Ranged, Stopped};
+ghost use Rattle.leaves.specs.inner.Ways.{CutsTo, OnFirstWay, Ranged};
 
 // Where a descent stops: at a leaf, and its number.
 pub struct Stop {
@@ -70,14 +70,24 @@ pub fn leaf_toward(panel: &[u8], deep: usize, k: Node) -> Stop
     }
 }
 
-// The same leaf without its number.
-fn nearest_leaf(panel: &[u8], deep: usize, k: Node) -> Node
+// How many nodes are cut from node 1 down to k, k among them: as many as k's depth where k is a leaf, one more where k is cut, and else the depth
+// of the leaf above k. A node of depth D is never cut.
+fn cuts_to(panel: &[u8], deep: usize, k: Node) -> u32
     requires { ⌜ Good (now panel) × (deep ≡ deepOf (now panel)) × InRange (now panel) (k .0) ⌝ }
-    ensures { λ r. ⌜ OnFirstWay (now (panel .entry)) (k .0) (r .0) (numberIn (now (panel .entry)) (r .0)) ⌝ }
+    ensures { λ r. ⌜ CutsTo (now (panel .entry)) (k .0) r ⌝ }
 {
     let levels = deep - nodes::depth(k) as usize;
-    let first = Node(k.0 << levels);
-    Node(uncut_over(&panel, deep, deep, first))
+    let last = if levels == 0 { 1 } else { levels };
+    let half = 1usize << (deep - 1);
+    cuts_toward(
+        &panel,
+        deep,
+        last,
+        (3usize << deep) + half,
+        half,
+        Node(k.0 << levels),
+        0,
+    )
 }
 
 // Whether k is a leaf.
@@ -85,8 +95,7 @@ pub fn is_leaf(panel: &[u8], deep: usize, k: Node) -> bool
     requires { ⌜ Good (now panel) × (deep ≡ deepOf (now panel)) × InRange (now panel) (k .0) ⌝ }
     ensures { λ r. ⌜ Says (LeafOf (now (panel .entry)) (k .0)) r ⌝ }
 {
-    let leaf = nearest_leaf(panel, deep, k);
-    leaf.0 == k.0
+    cuts_to(panel, deep, k) == nodes::depth(k)
 }
 
 // Whether k is a leaf, where its sibling is one: the way down comes to both.
@@ -95,19 +104,6 @@ pub fn leaf_beside(panel: &[u8], deep: usize, k: Node) -> bool
     ensures { λ r. ⌜ Says (LeafOf (now (panel .entry)) (k .0)) r ⌝ }
 {
     !is_cut(panel, deep, k)
-}
-
-// The answer for k, where the way toward it stops at this leaf: 0, or refusal 4 or 10 where it stops below k or above it.
-fn stopped_at(k: Node, leaf: Node) -> Answer
-    ensures { λ r. ⌜ Stopped (k .0) (leaf .0) (answerNumber r) (answerAncestor r) ⌝ }
-{
-    if k.0 < leaf.0 {
-        return Answer::No(Refusal::IsCut);
-    }
-    if leaf.0 < k.0 {
-        return Answer::No(Refusal::BelowLeaf(leaf));
-    }
-    Answer::Done
 }
 
 // Whether k is a leaf, as a call that takes one answers: 0, or refusal 3, 4 or 10.
@@ -119,7 +115,15 @@ pub fn tested(panel: &[u8], deep: usize, k: Node) -> Answer
     if !in_range(deep, k) {
         return Answer::No(Refusal::NoSuchNode);
     }
-    stopped_at(k, nearest_leaf(panel, deep, k))
+    let d = nodes::depth(k);
+    let cuts = cuts_to(panel, deep, k);
+    if d < cuts {
+        return Answer::No(Refusal::IsCut);
+    }
+    if cuts < d {
+        return Answer::No(Refusal::BelowLeaf(Node(k.0 >> (d - cuts))));
+    }
+    Answer::Done
 }
 
 // The number of leaf k, or refusal 3, 4 or 10.
@@ -132,9 +136,13 @@ pub fn number_of(panel: &[u8], deep: usize, k: Node) -> Numbered
         return Numbered::No(Refusal::NoSuchNode);
     }
     let stop = leaf_toward(panel, deep, k);
+    let leaf = stop.node;
     let number = stop.number;
-    match stopped_at(k, stop.node) {
-        Answer::Done => Numbered::Number(number),
-        Answer::No(e) => Numbered::No(e),
+    if k.0 < leaf.0 {
+        return Numbered::No(Refusal::IsCut);
     }
+    if leaf.0 < k.0 {
+        return Numbered::No(Refusal::BelowLeaf(leaf));
+    }
+    Numbered::Number(number)
 }

@@ -1,15 +1,15 @@
--- The leaf on the way is k exactly where k is a leaf.
-use mathlib.Core.Path.{subst}
+-- As many cuts as k's depth lead to a leaf; with more of them k is cut, and with fewer it lies below one.
+use mathlib.Core.Path.{sym, _∙_}
 use Rattle.tables.proofs.Tables.{says-equal}
-use Rattle.panel.specs.Panels.{LeafOf}
+use Rattle.leaves.proofs.FirstWays.{leaf-cuts}
 use borrow.Author.Needs.{needs}
 use Rattle.leaves.proofs.is_leaf.Statement.{statement}
 use Rattle.leaves.proofs.is_leaf.Tie as tie
 
 returns : tie.Need-returns
 returns c =
-    let t = c .before .before .nearest-leaf .ensures in
-    says-equal _ _ (λ e. subst (LeafOf (c .before .before .before .before .args .panel .now)) e (t .leaf)) (t .own)
+    let t = c .before .cuts-to .ensures in
+    says-equal _ _ (λ e. t .leaf (e ∙ c .depth .ensures)) (λ l. leaf-cuts t l ∙ sym (c .depth .ensures))
 
 pub is-leaf-spec : {M : Type 1} → statement M
-is-leaf-spec = tie.close (tie.spec (λ c κs. search needs) returns)
+is-leaf-spec = tie.close (tie.spec (λ c κs. search needs) (λ c κs. search needs) returns)

@@ -4,10 +4,10 @@ use Prim.Native.Nat.{_/_}
 use native.Mathlib.Omega.{arith}
 use borrow.Author.Tests.{not-true, not-false}
 use Rattle.tables.specs.inner.Says.{Says}
-use Rattle.cuts.specs.Cuts.{sibling}
+use Rattle.words.specs.Words.{leafBit}
+use Rattle.cuts.specs.Cuts.{Cut, sibling}
 use Rattle.panel.specs.Panels.{CutOf}
 use Rattle.panel.proofs.Lengths.{good-room}
-use Rattle.descents.proofs.Downward.{says-cut}
 use Rattle.leaves.proofs.leaf_beside.Statement.{statement}
 use Rattle.leaves.proofs.leaf_beside.Tie as tie
 
@@ -20,7 +20,7 @@ returns c =
     let a = c .before .before in
     let s = a .args .panel .now in
     let k = a .args .k .0 in
-    let t : Says (CutOf s k) (c .is-cut .result) = says-cut s (a .pre .1) (c .is-cut .ensures) in
+    let t : Says (CutOf s k) (c .is-cut .result) = subst (λ x. Says (Cut x (leafBit x s) k) (c .is-cut .result)) (a .pre .1) (c .is-cut .ensures) in
     let e : sibling k / 2 ≡ k / 2 = omega (arith, a .pre .2 .low) in record {
       yes = λ h. record { low = a .pre .2 .low; uncut = t .no (not-true _ h); parent = subst (CutOf s) e (a .pre .3 .parent) };
       no = λ h l. l .uncut (t .yes (not-false _ h));
