@@ -7,9 +7,9 @@ use native.Mathlib.Nat.{one-mul, le-dest, le-of-suc-le-suc, not-suc-le-zero, mod
 use native.Mathlib.Numerals.{add-one, one-add}
 use native.Mathlib.Omega.{arith}
 use lib.ListN.{length, getD, set, length-set}
-use lib.Seq.{getD-set-same, getD-set-other, set-out, ext-getD}
+use lib.Seq.{getD-set-same, getD-set-other, set-getD, set-out, ext-getD}
 use lib.Arith.{digits-lt}
-use lib.Pow.{shr-lt, pow-pos, pow-add, shr-shr, high, low, mod-pow-add, mod-mod-pow}
+use lib.Pow.{shr-lt, pow-pos, pow-add, shr-shr, split, high, low, mod-pow-add, mod-mod-pow}
 use lib.Pow as P
 use Rattle.bits.specs.Bits.{digit, bit, run, field}
 use Rattle.bits.specs.inner.Puts.{withDigit, putBit, putField}
@@ -136,6 +136,14 @@ at-set f bs i j x h = ⊎-elim (λ l. other (omega arith)) (λ r. ⊎-elim same 
         ⊎-elim (λ out. ap (λ (l : List ℕ). f (getD l j 0)) (set-out bs i x out))
         (λ l. ap (λ (k : ℕ). f (getD (set bs i x) k 0)) e ∙ ap f (getD-set-same bs i x 0 l) ∙ h e ∙ ap (λ (k : ℕ). f (getD bs k 0)) (sym e))
         (le-or-lt (length bs) i)
+
+-- a bit that is v already: the bytes stay
+pub put-none : (bs : List ℕ) (p v : ℕ) → bit bs p ≡ v → putBit bs p v ≡ bs
+put-none bs p v e =
+    let n : ℕ = getD bs (p / 8) 0 in
+    let k : ℕ = p % 8 in
+    let h : n / 2 ^ k / 2 * 2 + v ≡ n / 2 ^ k = omega arith in
+    ap (set bs (p / 8)) (ap (λ (x : ℕ). x * 2 ^ k + n % 2 ^ k) h ∙ split n k) ∙ set-getD bs (p / 8) 0
 
 pub bit-put-other : (bs : List ℕ) (p q v : ℕ) → v < 2 → (q ≡ p → ⊥) → bit (putBit bs p v) q ≡ bit bs q
 bit-put-other bs p q v hv h =

@@ -12,7 +12,7 @@ ghost use Rattle.cuts.specs.Cuts.{Cut, named};
 ghost use Rattle.cuts.specs.inner.Steps.{CutPlace, Follows, NodeOf, AcrossCut, PlaceFollows};
 
 // The place of the leaf bit that names n, whose children stand `levels` above depth deep: the leftmost below the right one.
-fn place_above(deep: usize, n: Node, levels: usize) -> usize
+pub fn place_above(deep: usize, n: Node, levels: usize) -> usize
     requires { ⌜ (deep ≤ 17) × (1 ≤ n .0) × (depthOf (n .0) + 1 + levels ≡ deep) ⌝ }
     ensures { λ r. ⌜ CutPlace deep (n .0) r ⌝ }
 {

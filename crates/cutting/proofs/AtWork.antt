@@ -3,10 +3,11 @@
 use mathlib.Core.Path.{_≡_, refl, sym, _∙_, subst}
 use mathlib.Core.Logic.{_≢_, _⊎_, _↔_, Iff·symm, Iff·trans}
 use mathlib.Core.List.{List}
-use Prim.Native.Nat.{ℕ, _^_, _≤_, _<_}
+use Prim.Native.Nat.{ℕ, _+_, _^_, _≤_, _<_}
 use native.Mathlib.Omega.{arith}
 use lib.ListN.{length}
 use lib.Pow.{pow-pos}
+use Rattle.nodes.specs.Depth.{depthOf}
 use Rattle.words.specs.Words.{leafBit}
 use Rattle.words.specs.inner.Working.{Room}
 use Rattle.words.proofs.Rooms.{room-same}
@@ -21,7 +22,7 @@ use Rattle.pins.proofs.PinBits.{pin-lt, pin-room-same, length-put-pin, leaf-put
 use Rattle.panel.specs.Panels.{Fits, deepOf, CutOf, Good}
 use Rattle.panel.proofs.Lengths.{fits-small, fits-room, fits-pins}
 use Rattle.panel.proofs.SameBytes.{cut-of, deep-same}
-use Rattle.cutting.specs.inner.Changing.{CutPut, CutUnder}
+use Rattle.cutting.specs.inner.Changing.{CutPut, Cuttable, CutUnder}
 
 -- xs are the bytes of panel s with leaf bits and pins changed, but for the first leaf bit, and right sums
 pub record AtWork (s xs : List ℕ) : Type 0 where
@@ -125,8 +126,9 @@ module _ {s : List ℕ} (G : Good s) {D : ℕ} (e : D ≡ deepOf s) where
   pub sums-at : {bs : List ℕ} → AtWork s bs → SumsRight D bs
   sums-at {bs} w = subst (λ x. SumsRight x bs) (sym e) (w .right .sums)
 
-  pub pins-at : {bs : List ℕ} → AtWork s bs → PinRoom D bs
-  pins-at {bs} w = subst (λ x. PinRoom x bs) (sym e) (work-pins G w)
+  pub cuttable-at : {bs : List ℕ} {n i : ℕ} → AtWork s bs → PinsOnLeaves (deepOf s) bs → 1 ≤ n → depthOf n + 1 + i ≡ deepOf s → (CutIn s bs n → ⊥) → Cuttable D bs n i
+  cuttable-at {bs} {n} {i} w o l h z =
+      subst (λ x. Cuttable x bs n i) (sym e) (record { room = work-pins G w; sums = w .right .sums; pins = o; low = l; deep = h; uncut = z })
 
   pub under-at : {xs ys : List ℕ} {n l : ℕ} → CutUnder D xs n l ys → CutUnder (deepOf s) xs n l ys
   under-at {xs} {ys} {n} {l} c = subst (λ x. CutUnder x xs n l ys) e c

@@ -1,6 +1,6 @@
 -- The cuts of a split, one after the other: what is cut so far and what the next node forces are, together, what k forces, and each cut gets the pin of
 -- the old leaf above it. What is left is the panel that the call promises.
-use mathlib.Core.Path.{_≡_, refl, sym, ap, subst}
+use mathlib.Core.Path.{_≡_, refl, sym, ap, _∙_, subst}
 use mathlib.Core.Logic.{_≢_, _⊎_, inl, inr, ⊎-elim, _↔_, Iff·symm}
 use mathlib.Core.List.{List}
 use Prim.Native.Nat.{ℕ, suc, _/_, _^_, _≤_, _<_}
@@ -9,8 +9,8 @@ use native.Mathlib.Omega.{arith}
 use lib.Pow.{pow-pos}
 use Rattle.nodes.specs.Depth.{depthOf}
 use Rattle.nodes.specs.Neighbours.{edge}
-use Rattle.nodes.proofs.Depths.{At, pow-next, at-depth, at-parent, depth-is, depth-half, below-depth}
-use Rattle.nodes.proofs.Edges.{edge-level, edge-mutual}
+use Rattle.nodes.proofs.Depths.{At, at-parent, depth-is, depth-half, below-depth}
+use Rattle.nodes.proofs.Edges.{edge-low, edge-depth, edge-level, edge-mutual, edge-other}
 use Rattle.words.specs.Words.{leafBit}
 use Rattle.cuts.proofs.Leaves.{leaf-depth}
 use Rattle.panel.proofs.GoodPanels.{good-bits}
@@ -71,7 +71,7 @@ module _ {s : List ℕ} (G : Good s) where
       was-leaf : LeafOf s m
       was-leaf = record { low = low; uncut = λ p. uncut (c .chain .old m p); parent = c .chain .parent low }
 
-      pins-1 : PinsStay s xs
+      pub pins-1 : PinsStay s xs
       pins-1 = stay-under G (c .work) (c .chain .old) (c .pins) 0 was-leaf (let e : m / 1 ≡ m = omega arith in e) a
 
       old-1 : (n : ℕ) → CutOf s n → CutIn s xs n
@@ -91,12 +91,15 @@ module _ {s : List ℕ} (G : Good s) where
         parent-old p = ⊎-elim (λ q. ⊎-elim (λ x. x) (λ h. absurd (omega (arith, depth-is (at-parent e-at), depth-half m low))) (c .chain .deep (edge m / 2) q))
             (λ e. absurd (omega (arith, ap depthOf e, depth-is (at-parent e-at), depth-half m low))) (under-add G (c .work) a (edge m / 2) .0 p)
 
+        -- it was not cut, and is not yet
+        old-uncut : CutOf s (edge m) → ⊥
+        old-uncut q = was-leaf .uncut (subst (CutOf s) (edge-mutual m z) (G .cuts .over (edge m) (omega (arith, e-at .low, pow-pos (depthOf (m / 2)))) q (λ w. omega (arith, edge-mutual m z, low))))
+
+        pub across-uncut : CutIn s xs (edge m) → ⊥
+        across-uncut p = ⊎-elim (λ q. ⊎-elim old-uncut (λ h. omega (arith, edge-depth m z)) (c .chain .deep (edge m) q)) (edge-other m z) (under-add G (c .work) a (edge m) .0 p)
+
         own-leaf : CutIn s xs (edge m / 2) → LeafOf s (edge m)
-        own-leaf p = record {
-          low = omega (arith, e-at .low, pow-pos (depthOf (m / 2)));
-          uncut = λ q. was-leaf .uncut (subst (CutOf s) (edge-mutual m z) (G .cuts .over (edge m) (omega (arith, e-at .low, pow-pos (depthOf (m / 2)))) q (λ w. omega (arith, edge-mutual m z, low))));
-          parent = parent-old p;
-        }
+        own-leaf p = record { low = omega (arith, e-at .low, pow-pos (depthOf (m / 2))); uncut = old-uncut; parent = parent-old p }
 
         parent-leaf : (CutIn s xs (edge m / 2) → ⊥) → LeafOf s (edge m / 2)
         parent-leaf p = record { low = big; uncut = λ q. p (old-1 (edge m / 2) q); parent = next (CutOf s) (G .cuts) (depthOf (m / 2)) m (own .at) (c .chain .parent low) z big }
@@ -121,11 +124,6 @@ module _ {s : List ℕ} (G : Good s) where
 
         pub held-node : {l : ℕ} → Held l → (1 ≤ l) × (depthOf l ≤ deepOf s)
         held-node {l} (i, L, e) = (omega (arith, L .low), leaf-depth (deepOf s) (leafBit (deepOf s) s) (good-bits s G) l L)
-
-        pub parent-node : NodeOf (deepOf s) (edge m / 2)
-        parent-node =
-            let h : 1 ≤ edge m / 2 = omega (arith, e-at .low, pow-pos (depthOf (m / 2)), pow-next (depthOf (m / 2))) in
-            record { low = h; high = below-depth (edge m / 2) (deepOf s) h (omega (arith, depth-is (at-parent e-at), depth-half m low, c .deep)) }
 
       -- and else both are cut, and the neighbour's parent is next
       pub splitting-step : (z : edge m ≢ 0) {l : ℕ} → Held z l → {ys : List ℕ} → CutUnder (deepOf s) xs (edge m) l ys → Splitting s k ys (edge m / 2)
@@ -152,8 +150,9 @@ module _ {s : List ℕ} (G : Good s) where
   pub still-uncut : {bs ys : List ℕ} {n l m : ℕ} → AtWork s bs → CutUnder (deepOf s) bs n l ys → m ≢ n → (CutIn s bs m → ⊥) → CutIn s ys m → ⊥
   still-uncut {m = m} w u z f c = ⊎-elim f z (under-add G w u m .0 c)
 
--- the parent of the node across is nearer to node 1
-pub across-above : (m : ℕ) → 2 ≤ m → edge m ≢ 0 → depthOf (edge m / 2) < depthOf m
-across-above m h z =
-    let a : At (suc (depthOf (m / 2))) m = subst (λ d. At d m) (depth-half m h) (at-depth (omega arith)) in
-    omega (arith, depth-is (at-parent (edge-level (suc (depthOf (m / 2))) m a z)), depth-half m h)
+-- the node across has a parent, one level nearer to node 1
+pub across-low : (m : ℕ) → edge m ≢ 0 → 2 ≤ edge m
+across-low m z = edge-low (edge m) (λ e. omega (arith, edge-mutual m z, edge-low m z))
+
+pub across-above : (m : ℕ) → edge m ≢ 0 → depthOf m ≡ suc (depthOf (edge m / 2))
+across-above m z = sym (edge-depth m z) ∙ depth-half (edge m) (across-low m z)

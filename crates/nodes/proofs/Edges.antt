@@ -63,6 +63,15 @@ edge-first n p q = go (decLe n 2)
     go (yes a) = let e : n ≡ 2 = omega arith in rw e
     go (no a) = let e : n ≡ 3 = omega arith in rw e
 
+-- of two neighbours one is a left child and one a right one: no node is its own
+pub edge-other : (n : ℕ) → edge n ≢ 0 → edge n ≢ n
+edge-other n z e = go (decLe n 3) (decLe (n % 2) 0)
+  where
+    go : Dec (n ≤ 3) → Dec (n % 2 ≤ 0) → ⊥
+    go (yes a) b = omega (arith, edge-first n (edge-low n z) a)
+    go (no a) (yes b) = omega (arith, ap edge (let f : n ≡ 2 * (n / 2) = omega arith in f) ∙ ap edgeIn (left-triple (n / 2) (omega arith)), right-child (rightIn (neighboursOf (n / 2))))
+    go (no a) (no b) = omega (arith, ap edge (let f : n ≡ 2 * (n / 2) + 1 = omega arith in f) ∙ ap edgeIn (right-triple (n / 2) (omega arith)))
+
 -- at depth 2 the long sides are the panel's border
 pub edge-second : (n : ℕ) → 4 ≤ n → n ≤ 7 → edge n ≡ 0
 unfolding neighboursOf neighboursAt depthOf depthIn

@@ -8,7 +8,7 @@ use native.Mathlib.Omega.{arith}
 use lib.ListN.{length}
 use lib.Pow.{pow-add, pow-mono}
 use Rattle.bits.specs.Bits.{bit}
-use Rattle.bits.proofs.Laws.{length-putBit, bit-put-same, bit-put-other, bit-lt, one-shl}
+use Rattle.bits.proofs.Laws.{length-putBit, put-none, bit-put-same, bit-put-other, bit-lt, one-shl}
 use Rattle.nodes.specs.Depth.{depthOf}
 use Rattle.nodes.proofs.Depths.{pow-next, at-depth, at-below}
 use Rattle.words.specs.Words.{leafBit}
@@ -36,6 +36,11 @@ module _ (D : ℕ) (bs : List ℕ) (p v : ℕ) where
   pub length-put-pin : length (putPin D bs p v) ≡ length bs
   unfolding putPin
   length-put-pin = length-putBit bs (pinPlace D p) v
+
+  -- where it is v already nothing changes
+  pub put-pin-none : pinBit D bs p ≡ v → putPin D bs p v ≡ bs
+  unfolding pinBit putPin
+  put-pin-none = put-none bs (pinPlace D p) v
 
   module _ (hv : v < 2) where
     pub pin-put-same : PinRoom D bs → p < 2 ^ D → pinBit D (putPin D bs p v) p ≡ v
