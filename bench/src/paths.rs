@@ -63,13 +63,13 @@ fn print_rounds(deep: u32, what: &str, rounds: &[Round], turns: usize, long: Dur
     let Took { round, all_sums, along, in_c, tuned, one_walk } = took(rounds, turns, long);
     let many: usize = rounds.iter().map(Round::count).sum();
     let cuts: u32 = rounds.iter().map(Round::cuts).sum();
-    let (of_all_sums, of_along) = (round / all_sums, round / along);
+    let (of_all_sums, of_along, of_tuned) = (round / all_sums, round / along, round / tuned);
     let to_reach = |ratio: f64, most: f64| match deep {
         HELD_FROM.. => held(format!("{most:.2}"), ratio <= most),
         _ => String::new(),
     };
     println!(
-        "| {deep} | {what}, {} times {} | {:.2} | {round:.1} | {all_sums:.0} | {along:.1} | {in_c:.1} | {tuned:.1} | {one_walk:.1} | **{}** | {} | **{}** | {} | {} | {} | {} |",
+        "| {deep} | {what}, {} times {} | {:.2} | {round:.1} | {all_sums:.0} | {along:.1} | {in_c:.1} | {tuned:.1} | {one_walk:.1} | **{}** | {} | **{}** | {} | {} | **{}** | {} | {} |",
         rounds.len(),
         many / rounds.len(),
         f64::from(cuts) / many as f64,
@@ -78,7 +78,8 @@ fn print_rounds(deep: u32, what: &str, rounds: &[Round], turns: usize, long: Dur
         ratio(of_along),
         to_reach(of_along, OF_ALONG),
         ratio(round / in_c),
-        ratio(round / tuned),
+        ratio(of_tuned),
+        to_reach(of_tuned, OF_ALONG),
         ratio(one_walk / tuned)
     );
 }
@@ -157,9 +158,9 @@ pub fn print(turns: usize, long: Duration) {
     );
     println!(
         "| D | records | cuts a record | a round | Rust, all sums | Rust, along | C, along | Rust, tuned | Rust, one walk | round / all sums | to reach | \
-         round / Rust along | to reach | round / C along | round / tuned | one walk / tuned |"
+         round / Rust along | to reach | round / C along | round / tuned | to reach | one walk / tuned |"
     );
-    println!("|{}", "---|".repeat(16));
+    println!("|{}", "---|".repeat(17));
     DEPTHS.iter().for_each(|deep| print_depth(*deep, turns, 4 * long));
     println!("\n### Cost of a split by depth and chain\n");
     println!(
