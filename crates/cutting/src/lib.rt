@@ -36,7 +36,7 @@ fn cut_under(panel: &mut [u8], deep: usize, n: Node, levels: usize, l: Node)
 
 // Splits leaf k, which is not at depth D: cuts it and what its cut forces, the neighbour across the long side, its uncut parent, and so
 // on up. Each new leaf gets the pin of the old leaf that it lies below: the neighbour's cut that of the neighbour, or of its uncut parent,
-// before that one is cut.
+// before that one is cut. The children of a node and of the neighbour across stand `levels` above depth D.
 pub fn split_leaf(panel: &mut [u8], deep: usize, k: Node)
     requires { ⌜ Good (now panel) × (deep ≡ deepOf (now panel)) × LeafOf (now panel) (k .0) × (depthOf (k .0) < deep) ⌝ }
     ensures { λ _. ⌜ SplitAt (now (panel .entry)) (k .0) (now (panel .exit)) ⌝ }

@@ -1,4 +1,4 @@
-// Going down from node 1 of a good panel to a leaf. Each step is the last thing that a call does, the panel behind one reference: the
+// Going down from node 1 of a good panel to a leaf or a node. Each step is the last thing that a call does, the panel behind one reference: the
 // compiler makes a loop of it, which needs no stack. What comes back is a plain number: a struct comes back through memory, level by level,
 // and no loop can be made of that.
 use nodes::LeafNumber;

@@ -30,7 +30,7 @@ pub record Passed (s : List ℕ) (left n c : ℕ) : Type 0 where
   pub cut : 1 ≤ c → CutOf s (n / 2 ^ (deepOf s + 1 - c))
   pub uncut : c + left < deepOf s → CutOf s (n / 2 ^ (deepOf s - c)) → ⊥
 
--- bit p of the panel is the leaf bit that names node k, left levels above depth D, and half as many places lie below each of its children
+-- bit p of the panel is the leaf bit that names node k, left levels above depth D; half is how many places lie below each of its children
 pub record NamedAt (s : List ℕ) (left p half k : ℕ) : Type 0 where
   pub place : p ≡ 2 * 2 ^ deepOf s + (2 * k + 1) * half
   pub below : half ≡ 2 ^ (left - 1)
