@@ -24,7 +24,7 @@
 
 #define JOLPIBHAR_VERSION_MAJOR 0
 #define JOLPIBHAR_VERSION_MINOR 7
-#define JOLPIBHAR_VERSION_PATCH 1
+#define JOLPIBHAR_VERSION_PATCH 2
 #define JOLPIBHAR_VERSION "0.7.2"
 
 /* The depth of the finest panel; the coarsest is of depth 3. */

@@ -474,6 +474,42 @@ pub fn ordinary_merge_tuned(bytes: &mut [u8], deep: u32, node: u32) {
     merge_with(bytes, deep, node, edge(node / 2));
 }
 
+/// Whether a node is a leaf, by going down from node 1, as the scope document settles it: as many nodes are cut down to it, itself among them, as
+/// its depth says.
+#[inline(always)]
+fn settled(bytes: &[u8], deep: u32, node: u32) -> bool {
+    let (d, to) = (depth(node), leaf_bit(deep, node));
+    let mut half = 1usize << (deep - 1);
+    let mut bit = (3 << deep) + half;
+    let mut cuts = 0;
+    for _ in 0..=d.min(deep - 1) {
+        cuts += u32::from(is_set(bytes, bit));
+        bit += to & half;
+        half /= 2;
+        bit -= half;
+    }
+    cuts == d
+}
+
+/// The tuned split of a node that is settled to be a leaf.
+#[no_mangle]
+#[inline(never)]
+pub fn ordinary_split_settled(bytes: &mut [u8], deep: u32, node: u32) {
+    if settled(bytes, deep, node) {
+        cut_chain(bytes, deep, node, edge, |bytes, place| change_along(bytes, deep, place, 1));
+    }
+}
+
+/// The tuned merge of a node that is settled to be a leaf, and the pair across with it.
+#[no_mangle]
+#[inline(never)]
+pub fn ordinary_merge_settled(bytes: &mut [u8], deep: u32, node: u32) {
+    let across = edge(node / 2);
+    if settled(bytes, deep, node) && (across == 0 || settled(bytes, deep, 2 * across)) {
+        merge_with(bytes, deep, node, across);
+    }
+}
+
 /// Places of the leaf bits that a split or a merge changes, and the bits that the others differ in from the first.
 struct Places {
     all: [MaybeUninit<u32>; MOST_CUTS],

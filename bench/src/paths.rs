@@ -38,6 +38,7 @@ struct Took {
     along: f64,
     in_c: f64,
     tuned: f64,
+    settled: f64,
     one_walk: f64,
 }
 
@@ -49,18 +50,21 @@ fn took(rounds: &[Round], turns: usize, long: Duration) -> Took {
     let tuned: Side = &|work, round| {
         by_ordinary(work, round, [ordinary::ordinary_split_tuned, ordinary::ordinary_merge_tuned]);
     };
+    let settled: Side = &|work, round| {
+        by_ordinary(work, round, [ordinary::ordinary_split_settled, ordinary::ordinary_merge_settled]);
+    };
     let one_walk: Side = &|work, round| {
         let ways = [ordinary::ordinary_split_in_one_walk, ordinary::ordinary_merge_in_one_walk];
         by_ordinary(work, round, ways);
     };
     let [all_sums] = a_record(&rounds[..1], (turns, Duration::ZERO), [all_sums]);
-    let sides = [&by_round, along, in_c, tuned, one_walk];
-    let [round, along, in_c, tuned, one_walk] = a_record(rounds, (4 * turns, long), sides);
-    Took { round, all_sums, along, in_c, tuned, one_walk }
+    let sides = [&by_round, along, in_c, tuned, settled, one_walk];
+    let [round, along, in_c, tuned, settled, one_walk] = a_record(rounds, (4 * turns, long), sides);
+    Took { round, all_sums, along, in_c, tuned, settled, one_walk }
 }
 
 fn print_rounds(deep: u32, what: &str, rounds: &[Round], turns: usize, long: Duration) {
-    let Took { round, all_sums, along, in_c, tuned, one_walk } = took(rounds, turns, long);
+    let Took { round, all_sums, along, in_c, tuned, settled, one_walk } = took(rounds, turns, long);
     let many: usize = rounds.iter().map(Round::count).sum();
     let cuts: u32 = rounds.iter().map(Round::cuts).sum();
     let (of_all_sums, of_along, of_tuned) = (round / all_sums, round / along, round / tuned);
@@ -69,7 +73,7 @@ fn print_rounds(deep: u32, what: &str, rounds: &[Round], turns: usize, long: Dur
         _ => String::new(),
     };
     println!(
-        "| {deep} | {what}, {} times {} | {:.2} | {round:.1} | {all_sums:.0} | {along:.1} | {in_c:.1} | {tuned:.1} | {one_walk:.1} | **{}** | {} | **{}** | {} | {} | **{}** | {} | {} |",
+        "| {deep} | {what}, {} times {} | {:.2} | {round:.1} | {all_sums:.0} | {along:.1} | {in_c:.1} | {tuned:.1} | {settled:.1} | {one_walk:.1} | **{}** | {} | **{}** | {} | {} | **{}** | {} | {} | {} |",
         rounds.len(),
         many / rounds.len(),
         f64::from(cuts) / many as f64,
@@ -80,6 +84,7 @@ fn print_rounds(deep: u32, what: &str, rounds: &[Round], turns: usize, long: Dur
         ratio(round / in_c),
         ratio(of_tuned),
         to_reach(of_tuned, OF_ALONG),
+        ratio(round / settled),
         ratio(one_walk / tuned)
     );
 }
@@ -152,15 +157,15 @@ pub fn print(turns: usize, long: Duration) {
         "Splits alone of leaves that look random, from a fresh panel, and then merges alone, from the panel that they leave: as many as are \
          allowed, {} at most; {RECORDS} in all at least, from so many panels, since a processor learns the jumps of a short list that comes again and again. Nanoseconds a record: a round judges the panel once; ordinary Rust makes all sums after each, or, as C does, works \
          out the words along the path from each changed leaf bit alone; *tuned* finds the edge neighbour in one step, as ours does, where the paper's algorithm 6 \
-         goes down to it; in one walk the words near node 1 are written once for all cuts of a record, else as *tuned*. The ordinary versions check nothing. All leave the same bytes. Of all sums a round is to take {OF_ALL_SUMS:.2} at most, and 0.001 \
+         goes down to it; *settled* is that one, and goes down from node 1 first to settle that what it is asked for is a leaf, once for a split and twice for a merge; in one walk the words near node 1 are written once for all cuts of a record, else as *tuned*. But for that way down the ordinary versions check nothing. All leave the same bytes. Of all sums a round is to take {OF_ALL_SUMS:.2} at most, and 0.001 \
          at D = {DEEPEST} is the goal.\n",
         records::MOST
     );
     println!(
-        "| D | records | cuts a record | a round | Rust, all sums | Rust, along | C, along | Rust, tuned | Rust, one walk | round / all sums | to reach | \
-         round / Rust along | to reach | round / C along | round / tuned | to reach | one walk / tuned |"
+        "| D | records | cuts a record | a round | Rust, all sums | Rust, along | C, along | Rust, tuned | Rust, settled | Rust, one walk | round / all sums | to reach | \
+         round / Rust along | to reach | round / C along | round / tuned | to reach | round / settled | one walk / tuned |"
     );
-    println!("|{}", "---|".repeat(17));
+    println!("|{}", "---|".repeat(19));
     DEPTHS.iter().for_each(|deep| print_depth(*deep, turns, 4 * long));
     println!("\n### Cost of a split by depth and chain\n");
     println!(
