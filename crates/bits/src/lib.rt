@@ -1,4 +1,6 @@
 // Bits, bytes and numbers of several bytes in lent bytes.
+#![tactic(auto)]
+
 ghost use Rattle.std.specs.Prelude.{◌≡◌, ◌+◌, ◌*◌, ◌/◌, ◌%◌, ◌≤◌, ◌<◌, length, get_or, set};
 ghost use Rattle.bits.specs.Bits.{bit, field};
 ghost use Rattle.bits.specs.inner.Puts.{put_bit, put_field};

@@ -2,7 +2,7 @@
 use mathlib.Core.Path.{◌≡◌, refl, sym, ap, ◌∙◌, subst}
 use mathlib.Core.Bool.{Bool, true}
 use mathlib.Core.Logic.{◌≢◌, ◌⊎◌, inl, inr, ⊎_elim, ◌↔◌}
-use Prim.Native.Nat.{ℕ, suc, ◌+◌, ◌-◌, ◌*◌, ◌/◌, ◌≤◌}
+use Prim.Native.Nat.{ℕ, zero, suc, ◌+◌, ◌-◌, ◌*◌, ◌/◌, ◌≤◌}
 use native.Mathlib.Decide.{ℕ_discrete}
 use native.Mathlib.Omega.{arith}
 use Rattle.nodes.specs.Depth.{depth_of}
@@ -119,6 +119,7 @@ module _ {P Q : ℕ → Type 0} (G : GoodCuts P) (dec : (n : ℕ) → Dec (P n))
     where
       to : (d : ℕ) → At d k → Added P d k n → n ≢ k → n ≢ edge k → P n
       to d a (inl p) y z = p
+      to zero a (inr f) y z = elim f [ ]
       to (suc d) a (inr (inl e)) y z = absurd (y e)
       to (suc d) a (inr (inr (w, inl e))) y z = absurd (z e)
       to (suc d) a (inr (inr (w, inr f))) y z = already P G d (edge k / 2) (at_parent (edge_level (suc d) k a w)) (across w).parent n f

@@ -1,5 +1,7 @@
 // Fields of bits in lent bytes. One of any place goes through a window of four bytes that always lies inside: four bytes hold a field
 // of up to 25 bits wherever in a byte it starts, fields to 24 bits and one bit to spare. One of whole bytes needs no window.
+#![tactic(auto)]
+
 ghost use Rattle.std.specs.Prelude.{◌≡◌, ◌+◌, ◌-◌, ◌*◌, ◌/◌, ◌^◌, ◌≤◌, ◌<◌, length};
 ghost use Rattle.bits.specs.Bits.{field};
 ghost use Rattle.bits.specs.inner.Puts.{put_field};

@@ -1,4 +1,6 @@
 // Node numbers: depth, limits, neighbours.
+#![tactic(auto)]
+
 pub mod numbers; // Node, LeafNumber, a node's depth, the limits
 pub mod triples; // the neighbour triple
 pub mod longside; // the edge neighbour alone

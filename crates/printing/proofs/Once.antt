@@ -39,6 +39,8 @@ module _ {given b : List ℕ} {D : ℕ} (h : Holds D b) where
 
 -- blocks in turn are the lines from the first one's first to the last one's last
 pub lines_then : {given b x y : List ℕ} {D i j k : ℕ} → Lines given D b i j x → Lines given D b j k y → Lines given D b i k (x ++ y)
-lines_then {given} {b} {x} {D = D} {i = i} {j = j} l none = subst⁻¹ (Lines given D b i j) (append-nil x) l
-lines_then {given} {b} {x} {D = D} {i = i} l (more {j = j} {t = t} {u = u} m n p) =
-    subst (Lines given D b i (j + 1)) (append_assoc x t u) (more (lines_then l m) n p)
+lines_then {given} {b} {x} {D = D} {i = i} {j = j} l a = go a
+  where
+    go : {y : List ℕ} {k : ℕ} → Lines given D b j k y → Lines given D b i k (x ++ y)
+    go none = subst⁻¹ (Lines given D b i j) (append-nil x) l
+    go (more {j = k} {t = t} {u = u} m n p) = subst (Lines given D b i (k + 1)) (append_assoc x t u) (more (go m) n p)

@@ -67,9 +67,12 @@ good_holds g d = let e = panel_whole _ _ (good_long g d) in record { good = λ _
 -- the panel is all of the buffer after each record too
 pub runs_in_order : {rs given : List ℕ} {x y : ℕ × List ℕ} → Good x.1 → x.0 ≡ deep_of x.1 → InTurn (ℕ × List ℕ) (StepBytes 1 2) rs x given y
     → (y.0 ≡ deep_of y.1) × InOrder rs x.1 given y.1
-runs_in_order g d none = (d, none)
-runs_in_order g d (more r (o, b)) =
-    let i = runs_in_order g d r in
-    let h = (in_order_good g i.1).0 in
-    let k = step_single _ _ (good_long h i.0) o in
-    (k.0 ∙ i.0 ∙ ap (λ n. depth_of n + 1) (sym (single_good h k.1).1), more i.1 (k.1, b))
+runs_in_order {rs} {x = x} g d a = go a
+  where
+    go : {given : List ℕ} {y : ℕ × List ℕ} → InTurn (ℕ × List ℕ) (StepBytes 1 2) rs x given y → (y.0 ≡ deep_of y.1) × InOrder rs x.1 given y.1
+    go none = (d, none)
+    go (more r (o, b)) =
+        let i = go r in
+        let h = (in_order_good g i.1).0 in
+        let k = step_single _ _ (good_long h i.0) o in
+        (k.0 ∙ i.0 ∙ ap (λ n. depth_of n + 1) (sym (single_good h k.1).1), more i.1 (k.1, b))

@@ -4,27 +4,12 @@ use Prim.Native.Nat.{◌+◌}
 use native.Mathlib.Omega.{arith}
 use Rattle.bits.specs.inner.Puts.{put_little}
 use borrow.Author.Rules.{rules}
-use Rattle.bits.proofs.store_four.Statement.{statement}
-use Rattle.bits.proofs.store_four.Tie as tie
+use Rattle.bits.proofs.store_four.Goals as goal
 
-returns : tie.Need-returns
+pub returns : goal.returns
 unfolding put_little
 returns c =
     let i = c.before.before.before.before.before.before.before.before.before.before.before.before.before.before.before.before.before.args.i in
     let a : i + 1 + 1 ≡ i + 2 = omega arith in
     let b : i + 1 + 1 + 1 ≡ i + 3 = omega arith in
     cc
-
-pub store_four_spec : {M : Type 1} → statement M
-store_four_spec =
-    tie.close
-    (tie.spec
-    (λ c κs. search rules)
-    (λ c. search rules)
-    (λ c κs. search rules)
-    (λ c. search rules)
-    (λ c κs. search rules)
-    (λ c. search rules)
-    (λ c κs. search rules)
-    (λ c. search rules)
-    returns)

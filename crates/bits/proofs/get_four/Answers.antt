@@ -5,31 +5,11 @@ use Prim.Native.Nat.{ℕ, ◌+◌}
 use lib.ListN.{get_or}
 use Rattle.bits.specs.Little.{little}
 use borrow.Author.Rules.{rules}
-use Rattle.bits.proofs.get_four.Statement.{statement}
-use Rattle.bits.proofs.get_four.Tie as tie
+use Rattle.bits.proofs.get_four.Goals as goal
 
-returns : tie.Need-returns
+pub returns : goal.returns
 unfolding little
 returns c =
     let a = c.before.before.before.before.before.args in
     let e : (i j : ℕ) → i ≡ j → get_or a.bytes.now i 0 ≡ get_or a.bytes.now j 0 = λ i j h. ap (λ (x : ℕ). get_or a.bytes.now x 0) h in
     omega (arith, e (a.i + 1 + 1) (a.i + 2) (omega arith), e (a.i + 1 + 1 + 1) (a.i + 3) (omega arith))
-
-pub get_four_spec : {M : Type 1} → statement M
-get_four_spec =
-    tie.close
-    (tie.spec
-    (λ c κs. search rules)
-    (λ c. search rules)
-    (λ c κs. search rules)
-    (λ c. search rules)
-    (λ c κs. search rules)
-    (λ c. search rules)
-    (λ c κs. search rules)
-    (λ c. search rules)
-    (λ c. search rules)
-    (λ c. search rules)
-    (λ c. search rules)
-    (λ c. search rules)
-    (λ c. search rules)
-    returns)
