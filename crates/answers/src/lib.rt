@@ -1,11 +1,13 @@
 // What a call may answer, and the customer's number and values of each case.
+#![tactic(auto)]
+
 ghost use Rattle.std.specs.Prelude.{◌≡◌};
 ghost use Rattle.answers.specs.Refusals.{refusal_number, refusal_ancestor, answer_number, answer_ancestor, counted_number, counted_leaves, found_number, found_node, numbered_number, numbered_leaf, numbered_ancestor, pinning_number, pinning_bit, pinning_ancestor, mending_number, mending_added, around_number, around_triple};
 
 use nodes::{LeafNumber, Node, Triple};
 
 // Why a call is refused, in the order of the customer's numbers: 1 to 11, and 16 to 18. A node that lies below a leaf is refused with that leaf.
-#[derive(Drop)]
+#[derive(Clone, Copy)]
 pub enum Refusal {
     WrongLength,
     NotGood,
@@ -68,7 +70,7 @@ impl Refusal {
     }
 }
 
-#[derive(Drop)]
+#[derive(Clone, Copy)]
 pub enum Answer {
     Done,
     No(Refusal),
@@ -94,7 +96,7 @@ impl Answer {
     }
 }
 
-#[derive(Drop)]
+#[derive(Clone, Copy)]
 pub enum Counted {
     Leaves(u32),
     No(Refusal),
@@ -120,7 +122,7 @@ impl Counted {
     }
 }
 
-#[derive(Drop)]
+#[derive(Clone, Copy)]
 pub enum Found {
     Leaf(Node),
     No(Refusal),
@@ -146,7 +148,7 @@ impl Found {
     }
 }
 
-#[derive(Drop)]
+#[derive(Clone, Copy)]
 pub enum Numbered {
     Number(LeafNumber),
     No(Refusal),
@@ -181,7 +183,7 @@ impl Numbered {
     }
 }
 
-#[derive(Drop)]
+#[derive(Clone, Copy)]
 pub enum Pinning {
     Pinned(bool),
     No(Refusal),
@@ -217,7 +219,7 @@ impl Pinning {
     }
 }
 
-#[derive(Drop)]
+#[derive(Clone, Copy)]
 pub enum Mending {
     Added(u32),
     No(Refusal),
@@ -244,7 +246,7 @@ impl Mending {
     }
 }
 
-#[derive(Drop)]
+#[derive(Clone, Copy)]
 pub enum Around {
     Neighbours(Triple),
     No(Refusal),

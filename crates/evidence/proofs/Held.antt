@@ -146,21 +146,27 @@ mended_stays {t} {n} {x} P bt bx o G = subst⁻¹ P (ap (λ (y : Mended). y.pane
 -- ---- any run of calls
 
 since_good : {s t : List ℕ} {l : ℕ} → Good s → Since s l t → Good t
-since_good G start = G
-since_good G (split r o) = stays_good (λ x d. d.good) (since_good G r) o
-since_good G (merged r o) = stays_good (λ x d. d.good) (since_good G r) o
-since_good G (pinned r o) = (put_stays (omega arith) (since_good G r) o).0
-since_good G (unpinned r o f) = (put_stays (omega arith) (since_good G r) o).0
-since_good G (mended r bt bx o) = let T = since_good G r in mended_stays Good bt bx o T T
+since_good {s} {l = l} G a = go a
+  where
+    go : {t : List ℕ} → Since s l t → Good t
+    go start = G
+    go (split r o) = stays_good (λ x d. d.good) (go r) o
+    go (merged r o) = stays_good (λ x d. d.good) (go r) o
+    go (pinned r o) = (put_stays (omega arith) (go r) o).0
+    go (unpinned r o f) = (put_stays (omega arith) (go r) o).0
+    go (mended r bt bx o) = let T = go r in mended_stays Good bt bx o T T
 
 pub never_covered : {s t : List ℕ} {l : ℕ} → Good s → LeafOf s l → Pinned s l → Since s l t → Held t l
-never_covered G L p start = held_first G L p
-never_covered G L p (split {t} {u} {k} r o) =
-    let H = never_covered G L p r in or_kept H o (λ z. held_split (since_good G r) H (subst (λ x. Split t k x u) z o))
-never_covered G L p (merged {t} {u} {k} r o) =
-    let H = never_covered G L p r in or_kept H o (λ z. held_merge (since_good G r) H (subst (λ x. Merge t k x u) z o))
-never_covered G L p (pinned r o) =
-    let H = never_covered G L p r in or_kept H o (λ z. held_put (since_good G r) H (omega arith) (put_leaf o z) (o.done z) (λ w. absurd (w refl)))
-never_covered G L p (unpinned r o f) =
-    let H = never_covered G L p r in or_kept H o (λ z. held_put (since_good G r) H (omega arith) (put_leaf o z) (o.done z) (λ _. f z))
-never_covered {l = l} G L p (mended r bt bx o) = mended_stays (λ t. Held t l) bt bx o (since_good G r) (never_covered G L p r)
+never_covered {s} {l = l} G L p a = go a
+  where
+    go : {t : List ℕ} → Since s l t → Held t l
+    go start = held_first G L p
+    go (split {t} {u} {k} r o) =
+        let H = go r in or_kept H o (λ z. held_split (since_good G r) H (subst (λ x. Split t k x u) z o))
+    go (merged {t} {u} {k} r o) =
+        let H = go r in or_kept H o (λ z. held_merge (since_good G r) H (subst (λ x. Merge t k x u) z o))
+    go (pinned r o) =
+        let H = go r in or_kept H o (λ z. held_put (since_good G r) H (omega arith) (put_leaf o z) (o.done z) (λ w. absurd (w refl)))
+    go (unpinned r o f) =
+        let H = go r in or_kept H o (λ z. held_put (since_good G r) H (omega arith) (put_leaf o z) (o.done z) (λ _. f z))
+    go (mended r bt bx o) = mended_stays (λ t. Held t l) bt bx o (since_good G r) (go r)

@@ -14,7 +14,7 @@ use descents::{cuts_toward, leaf_below, leaf_over};
 use nodes::{LeafNumber, Node};
 
 // Where a descent stops: at a leaf, and its number.
-#[derive(Drop)]
+#[derive(Clone, Copy)]
 pub struct Stop {
     pub node: Node,
     pub number: LeafNumber,

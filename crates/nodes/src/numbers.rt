@@ -14,11 +14,11 @@ pub const GREATEST_DEPTH: usize = 17;
 pub const GREATEST_NODE: u32 = (2 << GREATEST_DEPTH) - 1;
 
 // A node's number: node 1 is the whole panel, node k has the children 2k and 2k + 1.
-#[derive(Drop)]
+#[derive(Clone, Copy)]
 pub struct Node(pub u32);
 
 // A leaf's number: how many leaves stand left of it.
-#[derive(Drop)]
+#[derive(Clone, Copy)]
 pub struct LeafNumber(pub u32);
 
 // The depth of n: the place of its highest one bit.

@@ -5,7 +5,7 @@ ghost use Rattle.nodes.specs.Neighbours.{right_child, left_triple, right_triple,
 use crate::numbers::{Node, depth};
 
 // Left, right and edge; 0 is none.
-#[derive(Drop)]
+#[derive(Clone, Copy)]
 pub struct Triple {
     pub left: u32,
     pub right: u32,

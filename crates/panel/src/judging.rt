@@ -26,7 +26,7 @@ pub fn depth_of(panel: &[u8]) -> usize
 }
 
 // What every call on a panel begins with: the depth of a good panel, or why it is refused.
-#[derive(Drop)]
+#[derive(Clone, Copy)]
 pub enum Judgement {
     Good(usize),
     No(Refusal),

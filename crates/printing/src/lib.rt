@@ -11,14 +11,14 @@ use nodes::LeafNumber;
 pub const BLOCK: usize = 8192;
 
 // The two numbers of a line.
-#[derive(Drop)]
+#[derive(Clone, Copy)]
 struct Two {
     first: u64,
     second: u64,
 }
 
 // A block that is filled: the line that comes after it, and its bytes.
-#[derive(Drop)]
+#[derive(Clone, Copy)]
 pub struct Filled {
     pub upto: usize,
     pub size: usize,

@@ -8,7 +8,7 @@ use records::{OPEN, UNPIN, count_after, least};
 use turns::in_turn;
 
 // What a run has come to: how many records it has answered, and the depth of the panel that is open after them, or 0.
-#[derive(Drop)]
+#[derive(Clone, Copy)]
 pub struct Ran {
     pub count: usize,
     pub deep: usize,

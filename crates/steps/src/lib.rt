@@ -12,7 +12,7 @@ use nodes::Node;
 use panel::size;
 
 // What a record comes to: its answer, and the depth of the panel that is open after it, or 0.
-#[derive(Drop)]
+#[derive(Clone, Copy)]
 pub struct Stepped {
     pub answer: Answer,
     pub deep: usize,

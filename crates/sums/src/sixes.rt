@@ -4,7 +4,7 @@ ghost use Rattle.bits.specs.inner.Abreast.{Halves, Narrow, Joined, Packed};
 ghost use Rattle.sums.specs.inner.Rows.{SixOver};
 
 // A row's words, side by side: 32 of two bits, 16 of three, and so on to one of seven.
-#[derive(Drop)]
+#[derive(Clone, Copy)]
 pub struct SixRows {
     pub twos: u64,
     pub fours: u64,

@@ -1,4 +1,6 @@
 // A node's corners: three points of two coordinates, in the order A, B, C. A point is handed on coordinate by coordinate, so that the six numbers stay in registers on the way down.
+#![tactic(auto)]
+
 ghost use Rattle.std.specs.Prelude.{◌≡◌, ◌+◌, ◌/◌, ◌%◌, ◌≤◌};
 ghost use Rattle.nodes.specs.Depth.{depth_of};
 ghost use Rattle.triangles.specs.Corners.{InPanel, first_triangle, left_triangle, right_triangle, corners_of, turned};

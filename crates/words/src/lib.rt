@@ -1,4 +1,6 @@
 // Words and leaf bits of a tree of sums in lent bytes.
+#![tactic(auto)]
+
 ghost use Rattle.std.specs.Prelude.{◌≡◌, ◌+◌, ◌-◌, ◌*◌, ◌^◌, ◌≤◌, ◌<◌, take, drop};
 ghost use Rattle.nodes.specs.Depth.{depth_of};
 ghost use Rattle.words.specs.Words.{width, start, word, leaf_bit};

@@ -6,16 +6,12 @@ use native.Mathlib.Omega.{arith}
 use lib.Pow.{pow_mono}
 use borrow.Author.Rules.{rules}
 use Rattle.nodes.proofs.Depths.{pow_next}
-use Rattle.words.proofs.row_start.Statement.{statement}
-use Rattle.words.proofs.row_start.Tie as tie
+use Rattle.words.proofs.row_start.Goals as goal
 
-returns : tie.Need-returns
+pub returns : goal.returns
 returns c =
     let d = c.args.d in
     let w = c.args.deep + 1 - d in
     let e : c.args.deep + 3 - d ≡ 2 + w = omega arith in
     mod-eq_of_lt (omega (arith, mul-le-mul_right {m = c.args.deep + 3 - d} {n = 20} (2 ^ d) (omega arith), pow_mono {i = d} {j = 17} (omega arith)))
     ∙ ap (λ (x : ℕ). x * 2 ^ d) e ∙ omega (arith, add-mul 2 w (2 ^ d), mul_comm w (2 ^ d), pow_next d)
-
-pub row_start_spec : {M : Type 1} → statement M
-row_start_spec = tie.close (tie.spec (λ c. search rules) (λ c. search rules) (λ c. search rules) returns)
