@@ -1,4 +1,6 @@
 // The text of a printed line.
+#![tactic(auto)]
+
 ghost use Rattle.std.specs.Prelude.{◌≡◌, ◌++◌, ◌+◌, ◌≤◌, length, take};
 ghost use Rattle.lines.specs.inner.Adding.{longest, Added};
 

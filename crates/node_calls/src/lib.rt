@@ -1,4 +1,6 @@
 // The two calls that take no panel, neighbours and corners.
+#![tactic(auto)]
+
 ghost use Rattle.answers.specs.Refusals.{around_number, around_triple};
 ghost use Rattle.node_calls.specs.Calls.{Neighbours, Corners};
 

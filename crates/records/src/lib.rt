@@ -1,4 +1,6 @@
 // Request records: eight bytes each.
+#![tactic(auto)]
+
 ghost use Rattle.std.specs.Prelude.{◌≡◌, ◌*◌, ◌^◌, ◌≤◌, ◌<◌, min, length};
 ghost use Rattle.tables.specs.inner.Says.{Says};
 ghost use Rattle.records.specs.Records.{number, Fine, record_at, most_records, records_in, count_after};

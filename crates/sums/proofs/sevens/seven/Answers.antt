@@ -11,8 +11,7 @@ use borrow.Author.Rules.{rules}
 use Rattle.bits.proofs.Laws.{le_or_lt}
 use Rattle.bits.specs.inner.Abreast.{part}
 use Rattle.sums.specs.inner.Rows.{PairSums, Sevens}
-use Rattle.sums.proofs.sevens.seven.Statement.{statement}
-use Rattle.sums.proofs.sevens.seven.Tie as tie
+use Rattle.sums.proofs.sevens.seven.Goals as goal
 
 both : (a b : Bool) → T (a && b) → T a × T b
 both true b t = (tt, t)
@@ -62,21 +61,8 @@ last = 0 ∷ 18448 ∷ 18448 ∷ 36896 ∷ 18496 ∷ 36944 ∷ 36944 ∷ 55392 �
 right : (x : ℕ) → x < 256 → Sevens x (get_or first (x % 16) 0 + get_or last (x / 16) 0)
 right x h = sevens_are x _ (every_at (λ x. sevens x (get_or first (x % 16) 0 + get_or last (x / 16) 0)) 256 tt x h)
 
-add_result : tie.Need-overflow-add-result
-add_result c = omega (arith, (right c.args.x (search rules)).small)
+pub overflow_add-result : goal.overflow_add-result
+overflow_add-result c = omega (arith, (right c.args.x (search rules)).small)
 
-returns : tie.Need-returns
+pub returns : goal.returns
 returns c = right c.args.x (search rules)
-
-pub seven_spec : {M : Type 1} → statement M
-seven_spec =
-    tie.close
-    (tie.spec
-    (λ c. search rules)
-    (λ c. search rules)
-    (λ c. search rules)
-    (λ c. search rules)
-    (λ c. search rules)
-    (λ c. search rules)
-    add_result
-    returns)

@@ -4,18 +4,14 @@ use Prim.Native.Nat.{ℕ, ◌+◌}
 use native.Mathlib.Omega.{arith}
 use lib.Bits.{bit_and}
 use Rattle.bits.proofs.Abreast.{join_small, join_exact, join_words}
-use Rattle.sums.proofs.sixes.join.Statement.{statement}
-use Rattle.sums.proofs.sixes.join.Tie as tie
+use Rattle.sums.proofs.sixes.join.Goals as goal
 
-add_result : tie.Need-overflow-add-result
-add_result c =
+pub overflow_add-result : goal.overflow_add-result
+overflow_add-result c =
     let a = c.args in
     omega (arith, join_small a.w a.shift a.x a.mask c.requires.0 c.requires.1, join_exact a.w a.shift a.x a.mask c.requires.0 c.requires.1)
 
-returns : tie.Need-returns
+pub returns : goal.returns
 returns c =
     let a = c.args in
     join_words a.w a.shift a.x a.mask c.requires.0 c.requires.1 (ap (λ (y : ℕ). bit_and a.x a.mask + y) (join_exact a.w a.shift a.x a.mask c.requires.0 c.requires.1))
-
-pub join_spec : {M : Type 1} → statement M
-join_spec = tie.close (tie.spec (λ c. omega arith) (λ c. omega arith) add_result returns)
