@@ -1,5 +1,7 @@
 // Cuts: specs/ and proofs/ have sets of cuts, their leaves and the numbers of these, over any leaf bits. Here is a cut and the leaf bit
 // that names it: where the bit of a node is, whether the node is cut, and whether it may be.
+#![tactic(auto)]
+
 ghost use Rattle.std.specs.Prelude.{◌≡◌, ◌+◌, ◌^◌, ◌≤◌, ◌<◌};
 ghost use Rattle.std.specs.Int.Count.{count_trailing_zeros};
 ghost use Rattle.nodes.specs.Depth.{depth_of};

@@ -68,7 +68,7 @@ pub extern "C" fn panel_pinned(panel: &[u8], node: u32, pinned: &mut u32, ancest
 // Which bytes of the panel the leaf bits fill: the place of the first, and how many.
 #[unsafe(no_mangle)]
 pub extern "C" fn panel_leaf_bits(panel: &[u8], start: &mut usize, size: &mut usize) -> u32
-    ensures { LeafBytes panel.now result (record { start = start.exit.now; size = size.new }) }
+    ensures { LeafBytes panel.now result (record { start = start.new; size = size.new }) }
 {
     let mut number: u32 = 0;
     let part = calls::leaf_bits(panel, &mut number);
@@ -125,7 +125,7 @@ pub extern "C" fn panel_unpin(panel: &mut [u8], node: u32, ancestor: &mut u32) -
 // Mends the panel from whatever bytes it holds, with the cuts that this added, or refuses with 1 and writes no byte of it.
 #[unsafe(no_mangle)]
 pub extern "C" fn panel_mend(panel: &mut [u8], added: &mut u32) -> u32
-    ensures { Mend panel.entry.now result (record { panel = panel.exit.now; added = added.new }) }
+    ensures { Mend panel.old result (record { panel = panel.new; added = added.new }) }
 {
     let mended = mending::mend(panel);
     *added = mended.added();
@@ -135,7 +135,7 @@ pub extern "C" fn panel_mend(panel: &mut [u8], added: &mut u32) -> u32
 // Works through records of splits and merges in turn, an answer byte for each, or refuses and writes no byte.
 #[unsafe(no_mangle)]
 pub extern "C" fn panel_round(panel: &mut [u8], records: &[u8], answers: &mut [u8]) -> u32
-    ensures { Round panel.entry.now records.now answers.old result (record { panel = panel.exit.now; answers = answers.new }) }
+    ensures { Round panel.old records.now answers.old result (record { panel = panel.new; answers = answers.new }) }
 {
     rounds::round(panel, records, answers).number()
 }

@@ -1,4 +1,6 @@
 // The calls for C and Rust that take no panel: numbers only, the answer's number returned. Each promises what the call behind it does.
+#![tactic(auto)]
+
 ghost use Rattle.node_calls.specs.Calls.{Neighbours, Corners};
 ghost use Rattle.triangles.specs.Corners.{point, triangle};
 
@@ -7,7 +9,7 @@ use nodes::Node;
 // The neighbours of a node; 0 is none.
 #[unsafe(no_mangle)]
 pub extern "C" fn node_neighbours(node: u32, left: &mut u32, right: &mut u32, edge: &mut u32) -> u32
-    ensures { Neighbours node result (record { left = left.exit.now; right = right.new; edge = edge.new }) }
+    ensures { Neighbours node result (record { left = left.new; right = right.new; edge = edge.new }) }
 {
     let around = node_calls::neighbours(Node(node));
     let t = around.triple();

@@ -1,4 +1,6 @@
 // Making the six lowest rows of sums, 64 leaf bits at a time.
+#![tactic(auto)]
+
 ghost use Rattle.std.specs.Prelude.{◌-◌, ◌*◌, ◌^◌, ◌≤◌, ◌<◌, length};
 ghost use Rattle.words.specs.inner.Working.{Room};
 ghost use Rattle.sums.specs.inner.Rows.{Made, SixMade};

@@ -21,7 +21,7 @@ fn begin(panel: &mut [u8], deep: usize)
 // Mends a panel of this depth, and says how many cuts that added: the leaf bits set, less those set before, bit 0 counted in both.
 fn mend_right(panel: &mut [u8], deep: usize) -> u32
     requires { Fits panel.old deep }
-    ensures { MendedBy panel.entry.now (record { panel = panel.exit.now; added = result }) }
+    ensures { MendedBy panel.old (record { panel = panel.new; added = result }) }
 {
     begin(panel, deep);
     making::make_sums(panel, deep);
@@ -34,7 +34,7 @@ fn mend_right(panel: &mut [u8], deep: usize) -> u32
 
 // Mends the panel: the cuts added, or refusal 1 and no byte written.
 pub fn mend(panel: &mut [u8]) -> Mending
-    ensures { Mend panel.entry.now (mending_number result) (record { panel = panel.exit.now; added = mending_added result }) }
+    ensures { Mend panel.old (mending_number result) (record { panel = panel.new; added = mending_added result }) }
 {
     let deep = depth_of(panel);
     if deep == 0 {

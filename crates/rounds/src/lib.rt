@@ -9,7 +9,7 @@ use turns::in_turn;
 
 // Works through the records in turn, splits and merges, and writes an answer byte for each: 0, or refusal 1, 2, 16 or 17 and no byte written.
 pub fn round(panel: &mut [u8], records: &[u8], answers: &mut [u8]) -> Answer
-    ensures { Round panel.entry.now records.now answers.old (answer_number result) (record { panel = panel.exit.now; answers = answers.new }) }
+    ensures { Round panel.old records.now answers.old (answer_number result) (record { panel = panel.new; answers = answers.new }) }
 {
     let j = good_depth(panel);
     match j {

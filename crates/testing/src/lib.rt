@@ -1,5 +1,7 @@
 // Testing all sums: from depth 6 on the six lowest rows 64 leaf bits at a time, before it the three lowest rows eight leaf bits at a
 // time; the others word by word.
+#![tactic(auto)]
+
 ghost use Rattle.std.specs.Prelude.{◌+◌, ◌-◌, ◌*◌, ◌^◌, ◌≤◌, ◌<◌, length};
 ghost use Rattle.tables.specs.inner.Says.{Says};
 ghost use Rattle.words.specs.inner.Working.{Room};
