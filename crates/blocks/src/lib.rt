@@ -1,4 +1,6 @@
 // Judging 64 leaf bits at a time, at depths from 7: the leaf word below each node q, six levels above depth D.
+#![tactic(auto)]
+
 ghost use Rattle.std.specs.Prelude.{◌≡◌, ◌+◌, ◌-◌, ◌/◌, ◌^◌, ◌≤◌, ◌<◌};
 ghost use Rattle.nodes.specs.Depth.{depth_of};
 ghost use Rattle.tables.specs.inner.Says.{Says};

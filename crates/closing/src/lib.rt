@@ -1,5 +1,7 @@
 // Closing the cuts that leaf bits name: one pass over the levels, the deepest first, that cuts what a good set asks for and no more. A cut
 // node asks for its edge neighbour, which stands on its own level, and for its parent, on the next: a level that is passed asks no more.
+#![tactic(auto)]
+
 pub mod nodewise; // a level, node by node
 pub mod wordwise; // the deepest level, 32 leaf bits at a time
 

@@ -1,4 +1,6 @@
 // Whether all cuts are good.
+#![tactic(auto)]
+
 pub mod shallow; // the cuts of a panel of depth 3 to 6
 
 ghost use Rattle.tables.specs.inner.Says.{Says};

@@ -1,5 +1,7 @@
 // What the bits of one leaf word ask of each other. The leaf word below node q, six levels above depth D, names q in its bit 32, q's
 // children in bits 16 and 48, and so on to its odd bits. Its bit 0, but for that of the first word, names a node higher up.
+#![tactic(auto)]
+
 ghost use Rattle.std.specs.Prelude.{◌*◌, ◌/◌, ◌≤◌, ◌<◌};
 ghost use Rattle.tables.specs.inner.Says.{Says};
 ghost use Rattle.bits.specs.inner.Abreast.{Ones};

@@ -6,7 +6,7 @@ use native.Mathlib.Omega.{arith}
 use native.Mathlib.Decide.{dec_le}
 use Rattle.nodes.specs.declared.triples.Triple.{Triple}
 use Rattle.nodes.specs.Depth.{depth_of, depth_in}
-use Rattle.nodes.specs.Neighbours.{none, right_child, left_triple, right_triple, first_triple, neighbours_at, neighbours_of, edge}
+use Rattle.nodes.specs.Neighbours.{none, right_child, left_triple, right_triple, first_triple, neighbours_at, neighbours_of}
 use lib.Pow.{pow_pos}
 use Rattle.nodes.proofs.Depths.{depth_is, depth_left, depth_right, depth_pos, depth_le, below_depth, node_ind}
 

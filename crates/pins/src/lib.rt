@@ -1,4 +1,6 @@
 // Pin bits behind the words of a tree of sums, one for each leaf bit.
+#![tactic(auto)]
+
 pub mod places; // where a leaf's pin is, reading it and setting it
 pub mod testing; // whether every pin lies on a leaf bit
 pub mod keeping; // keeping the pins that do, and no other

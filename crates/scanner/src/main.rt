@@ -6,8 +6,11 @@ ghost use Rattle.records.specs.Records.{most_records};
 ghost use Rattle.requests.specs.Requests.{Ended};
 ghost use Rattle.printing.specs.Printing.{line_count, Lines};
 
-use libc::{STDIN_FILENO, STDOUT_FILENO};
 use requests::Ran;
+
+// The files that a program starts with, by the numbers that the system gives them.
+const STANDARD_INPUT: i32 = 0;
+const STANDARD_OUTPUT: i32 = 1;
 
 // The bytes of a part: 512 records.
 const PART: usize = 8 * 512;
@@ -25,7 +28,7 @@ fn scan(buffer: &mut [u8], answers: &mut [u8]) -> Ran
     let mut count: usize = 0;
     let mut deep: usize = 0;
     while count < records::MOST_RECORDS {
-        let got = io::read_full(STDIN_FILENO, &mut input);
+        let got = io::read_full(STANDARD_INPUT, &mut input);
         let before = Ran { count, deep };
         let ran = requests::run(&input[..got], got < PART, buffer, answers, before);
         if got < PART {
@@ -43,7 +46,7 @@ fn hand_out(answers: &[u8], buffer: &[u8], deep: usize, done: &mut usize, upto: 
     requires { Lines answers.now deep buffer.now done.old upto text.now }
     ensures { done.new ≡ upto }
 {
-    io::write_all(STDOUT_FILENO, text);
+    io::write_all(STANDARD_OUTPUT, text);
     *done = upto;
 }
 

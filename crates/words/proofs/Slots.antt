@@ -1,6 +1,6 @@
 -- The words lie one behind the other: word k + 1 starts where word k ends, and the last ends at bit 2 ^ (D + 2).
 use mathlib.Core.Path.{◌≡◌, sym, ap, ap₂, ◌∙◌, subst}
-use mathlib.Core.Logic.{◌⊎◌, inl, inr, ⊎_elim}
+use mathlib.Core.Logic.{inl, inr, ⊎_elim}
 use mathlib.Core.List.{List}
 use Prim.Native.Nat.{ℕ, zero, suc, ◌+◌, ◌-◌, ◌*◌, ◌^◌, ◌≤◌, ◌<◌}
 use native.Mathlib.Nat.{add-mul, mul-add, one-mul, mul-one, mul-zero, zero-mul, zero-lt-suc, le_trans, le_refl}

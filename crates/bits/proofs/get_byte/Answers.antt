@@ -1,7 +1,6 @@
 -- A byte is the field of its eight bits.
 use mathlib.Core.Path.{sym, ◌∙◌}
 use native.Mathlib.Omega.{arith}
-use borrow.Author.Rules.{rules}
 use Rattle.bits.proofs.Laws.{field_byte}
 use Rattle.bits.proofs.get_byte.Goals as goal
 

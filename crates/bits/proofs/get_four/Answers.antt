@@ -4,7 +4,6 @@ use mathlib.Core.Path.{◌≡◌, ap}
 use Prim.Native.Nat.{ℕ, ◌+◌}
 use lib.ListN.{get_or}
 use Rattle.bits.specs.Little.{little}
-use borrow.Author.Rules.{rules}
 use Rattle.bits.proofs.get_four.Goals as goal
 
 pub returns : goal.returns

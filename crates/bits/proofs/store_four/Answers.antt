@@ -3,7 +3,6 @@ use mathlib.Core.Path.{◌≡◌}
 use Prim.Native.Nat.{◌+◌}
 use native.Mathlib.Omega.{arith}
 use Rattle.bits.specs.inner.Puts.{put_little}
-use borrow.Author.Rules.{rules}
 use Rattle.bits.proofs.store_four.Goals as goal
 
 pub returns : goal.returns

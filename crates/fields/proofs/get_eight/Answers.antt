@@ -5,7 +5,6 @@ use Prim.Native.Nat.{ℕ, ◌+◌, ◌*◌, ◌-◌, ◌/◌, ◌%◌, ◌^◌}
 use lib.ListN.{get_or}
 use Rattle.bits.specs.Little.{little}
 use Rattle.bits.proofs.Windows.{field_window}
-use borrow.Author.Rules.{rules}
 use Rattle.fields.proofs.get_eight.Goals as goal
 
 pub returns : goal.returns

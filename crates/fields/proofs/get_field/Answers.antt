@@ -1,11 +1,9 @@
 -- The window holds the field, so the number above it shifted down and cut to w digits is the field's.
 use native.Mathlib.Omega.{arith}
-use mathlib.Core.Path.{sym, ap₂, ◌∙◌, subst⁻¹}
-use Prim.Native.Nat.{ℕ, ◌-◌, ◌*◌, ◌/◌, ◌%◌, ◌^◌, ◌<◌}
-use lib.Pow.{pow_pos}
+use mathlib.Core.Path.{sym, ap₂, ◌∙◌}
+use Prim.Native.Nat.{ℕ, ◌-◌, ◌*◌, ◌/◌, ◌%◌, ◌^◌}
 use Rattle.bits.proofs.Laws.{one_shl}
 use Rattle.bits.proofs.Windows.{field_window}
-use borrow.Author.Rules.{rules}
 use Rattle.fields.proofs.get_field.Goals as goal
 
 pub overflow_shr-result : goal.overflow_shr-result

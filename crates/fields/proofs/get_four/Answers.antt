@@ -4,7 +4,6 @@ use mathlib.Core.Path.{◌≡◌, ap}
 use Prim.Native.Nat.{ℕ, ◌*◌, ◌-◌, ◌/◌, ◌%◌, ◌^◌}
 use Rattle.bits.specs.Little.{little}
 use Rattle.bits.proofs.Windows.{field_window}
-use borrow.Author.Rules.{rules}
 use Rattle.fields.proofs.get_four.Goals as goal
 
 pub returns : goal.returns

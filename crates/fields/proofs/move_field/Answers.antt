@@ -5,7 +5,6 @@ use native.Mathlib.Omega.{arith}
 use Rattle.bits.specs.Bits.{field}
 use Rattle.bits.specs.inner.Puts.{put_little}
 use Rattle.bits.proofs.Windows.{with_field, field_window, put_window, Moved, moved}
-use borrow.Author.Rules.{rules}
 use Rattle.fields.proofs.move_field.Lts
 use Rattle.fields.proofs.move_field.Reads
 use Rattle.fields.proofs.move_field.Tie

@@ -5,7 +5,6 @@ use Prim.Native.Nat.{ℕ, ◌+◌, ◌*◌, ◌/◌, ◌%◌}
 use native.Mathlib.Omega.{arith}
 use Rattle.bits.specs.inner.Puts.{put_field}
 use Rattle.bits.proofs.Puts.{put_join}
-use borrow.Author.Rules.{rules}
 use Rattle.fields.proofs.put_six.Goals as goal
 
 pub returns : goal.returns

@@ -1,9 +1,8 @@
 -- At each level the triangle is that of the node's ancestor, by `CornersAt`; at the last the ancestor is the node.
 use native.Mathlib.Omega.{arith}
-use borrow.Author.Rules.{rules}
 use Rattle.nodes.proofs.Depths.{depth_pos}
 use Rattle.nodes.proofs.Descents.{start_above}
-use Rattle.triangles.proofs.CornerDescents.{CornersAt, corners_start, corners_fit, corners_left, corners_right, corners_end}
+use Rattle.triangles.proofs.CornerDescents.{corners_start, corners_fit, corners_left, corners_right, corners_end}
 use Rattle.triangles.proofs.corners_of.Goals as goal
 
 pub overflow_sub-levels : goal.overflow_sub-levels

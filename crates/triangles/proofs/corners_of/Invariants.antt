@@ -1,8 +1,4 @@
-use native.Mathlib.Omega.{arith}
-use borrow.Author.Rules.{rules}
-use Rattle.nodes.proofs.Depths.{depth_pos}
-use Rattle.nodes.proofs.Descents.{start_above}
-use Rattle.triangles.proofs.CornerDescents.{CornersAt, corners_start, corners_fit, corners_left, corners_right, corners_end}
+use Rattle.triangles.proofs.CornerDescents.{CornersAt}
 use Rattle.triangles.proofs.corners_of.Given as goal
 
 abbrev pub invariant-loop-levels : goal.invariant-loop-levels

@@ -5,7 +5,6 @@ use native.Mathlib.Omega.{arith}
 use Rattle.nodes.specs.Depth.{depth_of}
 use Rattle.triangles.specs.Corners.{turned}
 use Rattle.triangles.proofs.Arrays.{told_whole}
-use borrow.Author.Rules.{rules}
 use Rattle.triangles.proofs.turned_corners.Goals as goal
 
 pub returns-then-depth-eq0 : goal.returns-then-depth-eq0

@@ -1,7 +1,6 @@
 -- Word 0 has depth 0 by definition, and any other word is a node's.
 use mathlib.Core.Path.{sym, ap, ◌∙◌}
 use native.Mathlib.Omega.{arith}
-use borrow.Author.Rules.{rules}
 use Rattle.nodes.specs.Depth.{depth_of}
 use Rattle.nodes.proofs.Depths.{depth_zero}
 use Rattle.words.proofs.depth_of.Goals as goal

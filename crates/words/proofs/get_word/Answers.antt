@@ -2,10 +2,9 @@
 use mathlib.Core.Path.{ap₂, ◌∙◌}
 use native.Mathlib.Omega.{arith}
 use lib.ListN.{length}
-use borrow.Author.Rules.{rules}
 use Rattle.bits.specs.Bits.{field}
 use Rattle.words.specs.Words.{word}
-use Rattle.words.proofs.Rooms.{bounds, Placed, placed}
+use Rattle.words.proofs.Rooms.{Placed, placed}
 use Rattle.words.proofs.get_word.Lts
 use Rattle.words.proofs.get_word.Reads
 use Rattle.words.proofs.get_word.Tie

@@ -1,7 +1,6 @@
 -- The leaf bits start at bit 3 * 2 ^ D, which the code reaches by a shift that loses nothing.
 use mathlib.Core.Path.{ap, ◌∙◌}
 use native.Mathlib.Omega.{arith}
-use borrow.Author.Rules.{rules}
 use Rattle.bits.specs.Bits.{bit}
 use Rattle.words.specs.Words.{leaf_bit}
 use Rattle.words.proofs.Rooms.{bounds}

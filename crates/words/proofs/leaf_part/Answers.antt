@@ -1,9 +1,7 @@
 -- The leaf bits start at bit 3 * 2 ^ D and end at bit 4 * 2 ^ D, and 2 ^ D bits are 2 ^ (D - 3) whole bytes.
-use mathlib.Core.Path.{◌≡◌, ap, ap₂, ◌∙◌}
+use mathlib.Core.Path.{◌≡◌}
 use Prim.Native.Nat.{ℕ, ◌+◌, ◌-◌, ◌*◌, ◌%◌, ◌^◌}
 use native.Mathlib.Omega.{arith}
-use lib.ListN.{take, drop}
-use borrow.Author.Rules.{rules}
 use Rattle.words.proofs.Rooms.{bounds}
 use Rattle.words.proofs.leaf_part.Lts
 use Rattle.words.proofs.leaf_part.Reads

@@ -3,11 +3,10 @@ use mathlib.Core.Path.{ap, ap₂, ◌∙◌, subst⁻¹}
 use Prim.Native.Nat.{ℕ, ◌^◌, ◌<◌}
 use native.Mathlib.Omega.{arith}
 use lib.ListN.{length}
-use borrow.Author.Rules.{rules}
 use Rattle.bits.specs.inner.Puts.{put_field}
 use Rattle.words.specs.Words.{width}
 use Rattle.words.specs.inner.Working.{put_word}
-use Rattle.words.proofs.Rooms.{bounds, Placed, placed}
+use Rattle.words.proofs.Rooms.{Placed, placed}
 use Rattle.words.proofs.put_word.Lts
 use Rattle.words.proofs.put_word.Reads
 use Rattle.words.proofs.put_word.Tie

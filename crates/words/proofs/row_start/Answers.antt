@@ -4,7 +4,6 @@ use Prim.Native.Nat.{ℕ, ◌+◌, ◌-◌, ◌*◌, ◌^◌}
 use native.Mathlib.Nat.{add-mul, mul_comm, mul-le-mul_right, mod-eq_of_lt}
 use native.Mathlib.Omega.{arith}
 use lib.Pow.{pow_mono}
-use borrow.Author.Rules.{rules}
 use Rattle.nodes.proofs.Depths.{pow_next}
 use Rattle.words.proofs.row_start.Goals as goal
 

@@ -1,11 +1,9 @@
 -- The trailing zeros count the digits below the lowest mixed pair, and each way out is a case of `Across`.
 use mathlib.Core.Path.{◌≡◌, sym, subst}
 use Prim.Native.Nat.{ℕ, ◌*◌, ◌/◌, ◌%◌, ◌^◌, ◌≤◌, ◌<◌}
-use native.Mathlib.Nat.{mod-le}
 use native.Mathlib.Omega.{arith}
-use borrow.Author.Rules.{rules}
 use lib.Bits.{bit_and, bit_xor}
-use lib.Count.{count_trailing_zeros, trailing_le}
+use lib.Count.{count_trailing_zeros}
 use lib.Pow.{pow_pos}
 use Rattle.nodes.proofs.Depths.{at_depth, depth_le}
 use Rattle.nodes.proofs.Mirrors.{Across, across, Turns, turns, half_shift}

@@ -1,9 +1,8 @@
 -- At each level the triple is that of the node's ancestor, by `TripleAt`; at the last the ancestor is the node.
 use mathlib.Core.Path.{refl}
 use native.Mathlib.Omega.{arith}
-use borrow.Author.Rules.{rules}
 use Rattle.nodes.proofs.Depths.{depth_pos}
-use Rattle.nodes.proofs.Descents.{TripleAt, start_above, start_low, triple_start, triple_fits, triple_left, triple_right, triple_end}
+use Rattle.nodes.proofs.Descents.{start_above, start_low, triple_start, triple_fits, triple_left, triple_right, triple_end}
 use Rattle.nodes.proofs.triples.triple_of.Goals as goal
 
 pub overflow_sub-levels : goal.overflow_sub-levels

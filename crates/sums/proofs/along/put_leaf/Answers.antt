@@ -1,7 +1,7 @@
 -- Where the bit is v already nothing is to do. Else the loop goes up from the bit: all sums are right but the one above node k.
 use mathlib.Core.List.{List}
 use mathlib.Core.Path.{◌≡◌, sym, ◌∙◌, subst}
-use Prim.Native.Nat.{ℕ, ◌+◌, ◌-◌, ◌*◌, ◌/◌, ◌%◌, ◌^◌, ◌≤◌, ◌<◌}
+use Prim.Native.Nat.{ℕ, ◌+◌, ◌*◌, ◌/◌, ◌%◌, ◌^◌, ◌≤◌}
 use native.Mathlib.Omega.{arith}
 use borrow.Author.Rules.{rules}
 use Rattle.nodes.proofs.Depths.{pow_next, at_from}
@@ -10,7 +10,7 @@ use Rattle.words.proofs.Rooms.{bounds, room_same}
 use Rattle.words.proofs.Slots.{word_lt}
 use Rattle.sums.specs.inner.Summed.{Summed}
 use Rattle.sums.proofs.Counts.{leaf_bits}
-use Rattle.sums.proofs.Climbing.{Climbed, climb_none, climb_first, climb_takes, climb_fits, climb_step, climb_done, OnPath, path_first, path_up, OfSum, of_sum}
+use Rattle.sums.proofs.Climbing.{Climbed, climb_none, climb_first, climb_takes, climb_fits, climb_step, climb_done, path_first, path_up, OfSum, of_sum}
 use Rattle.sums.proofs.along.put_leaf.Lts
 use Rattle.sums.proofs.along.put_leaf.Reads
 use Rattle.sums.proofs.along.put_leaf.Tie

@@ -1,6 +1,5 @@
 -- Eight words joined two by two are four wider ones, which are packed.
 use native.Mathlib.Omega.{arith}
-use borrow.Author.Rules.{rules}
 use Rattle.bits.proofs.Abreast.{halves_8, pack_narrow, pack_step}
 use Rattle.sums.proofs.sixes.pack_eight.Goals as goal
 

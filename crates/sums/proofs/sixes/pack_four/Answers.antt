@@ -1,6 +1,5 @@
 -- Four words joined two by two are two wider ones, which are packed.
 use native.Mathlib.Omega.{arith}
-use borrow.Author.Rules.{rules}
 use Rattle.bits.proofs.Abreast.{halves_16, pack_narrow, pack_step}
 use Rattle.sums.proofs.sixes.pack_four.Goals as goal
 

@@ -1,6 +1,5 @@
 -- Sixteen words joined two by two are eight wider ones, which are packed.
 use native.Mathlib.Omega.{arith}
-use borrow.Author.Rules.{rules}
 use Rattle.bits.proofs.Abreast.{halves_4, pack_narrow, pack_step}
 use Rattle.sums.proofs.sixes.pack_sixteen.Goals as goal
 

@@ -1,7 +1,7 @@
 -- Each row's words are sums of those of the row below, and packing leaves them.
 use native.Mathlib.Omega.{arith}
 use Rattle.bits.proofs.Abreast.{halves_1, halves_2, halves_4, halves_8, halves_16, halves_32}
-use Rattle.sums.proofs.SixSums.{fours_narrow, eights_narrow, sixteens_narrow, halves_narrow, six_over}
+use Rattle.sums.proofs.SixSums.{six_over}
 use Rattle.sums.proofs.sixes.six_rows.Goals as goal
 
 pub join-a-requires : goal.join-a-requires

@@ -1,0 +1,15 @@
+use mathlib.Core.Path.{subst}
+use Prim.Native.Nat.{ℕ, ◌*◌, ◌-◌}
+use native.Mathlib.Omega.{arith}
+use lib.ListN.{length}
+use Rattle.sums.specs.inner.Rows.{SevenAt}
+use Rattle.words.proofs.Rooms.{Quarter, quarter}
+use Rattle.sums.proofs.Steps.{Blockwise, blocks_none}
+use Rattle.sums.proofs.LowThree.{seven_next, seven_all}
+use Rattle.making.proofs.make_lowest_three.Given as goal
+
+abbrev pub invariant-loop-i : goal.invariant-loop-i
+invariant-loop-i l = Quarter l.deep (length l.initial.bytes) l.m × Blockwise (SevenAt l.m) (6 * l.m) (24 * l.m) l.i l.initial.bytes l.bytes
+
+abbrev pub decreases-loop-i : goal.decreases-loop-i
+decreases-loop-i l = l.m - l.i
