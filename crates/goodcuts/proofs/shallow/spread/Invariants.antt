@@ -1,0 +1,10 @@
+use Prim.Native.Nat.{◌/◌}
+use native.Mathlib.Omega.{arith}
+use Rattle.goodcuts.proofs.Spreading.{Spreading, Turn, spread_first, spread_last, turn}
+use Rattle.goodcuts.proofs.shallow.spread.Given as goal
+
+abbrev pub invariant-loop-w : goal.invariant-loop-w
+invariant-loop-w l = Spreading l.deep l.x l.w l.lane l.ones l.y
+
+abbrev pub decreases-loop-w : goal.decreases-loop-w
+decreases-loop-w l = l.w
