@@ -14,7 +14,7 @@ use Rattle.making.proofs.make_row.Reads
 use Rattle.making.proofs.make_row.Tie
 use Rattle.making.proofs.make_row.Goals as goal
 
-abbrev start : goal.In-loop-k → (Lts.Start Tie.the-claims Reads.Pre Reads.Post goal.the-invariant-loop-k goal.the-decreases-loop-k goal.the-invariant-loop-k-test goal.the-decreases-loop-k-test)
+abbrev start : goal.In-loop-k → (Lts.Start Tie.the-claims Reads.Pre Reads.Post goal.the-invariant-loop-k goal.the-decreases-loop-k)
 start c = c.before.before.before.before.before
 
 -- a turn's places
@@ -53,8 +53,8 @@ overflow_add-k c = omega (arith, known c.before.before.before.before.before.befo
 pub overflow_add-p-in-loop-k : goal.overflow_add-p-in-loop-k
 overflow_add-p-in-loop-k c = omega (arith, known c.before.before.before.before.before.before.before)
 
-pub overflow_add-c : goal.overflow_add-c
-overflow_add-c c = omega (arith, known c.before)
+pub overflow_add-c-in-loop-k : goal.overflow_add-c-in-loop-k
+overflow_add-c-in-loop-k c = omega (arith, known c.before.before.before.before.before.before.before)
 
 pub loop-k-preserved : goal.loop-k-preserved
 loop-k-preserved c =

@@ -13,16 +13,16 @@ use Rattle.testing.proofs.row.Reads
 use Rattle.testing.proofs.row.Tie
 use Rattle.testing.proofs.row.Goals as goal
 
-abbrev start : (Lts.In-loop Tie.the-claims Reads.Pre Reads.Post goal.the-invariant-loop-k goal.the-decreases-loop-k goal.the-invariant-loop-k-test goal.the-decreases-loop-k-test) → (Lts.Start Tie.the-claims Reads.Pre Reads.Post goal.the-invariant-loop-k goal.the-decreases-loop-k goal.the-invariant-loop-k-test goal.the-decreases-loop-k-test)
+abbrev start : (Lts.In-loop Tie.the-claims Reads.Pre Reads.Post goal.the-invariant-loop-k goal.the-decreases-loop-k) → (Lts.Start Tie.the-claims Reads.Pre Reads.Post goal.the-invariant-loop-k goal.the-decreases-loop-k)
 start c = c.before.before.before.before.before
 
 -- a turn's places
-known : (c : (Lts.In-loop Tie.the-claims Reads.Pre Reads.Post goal.the-invariant-loop-k goal.the-decreases-loop-k goal.the-invariant-loop-k-test goal.the-decreases-loop-k-test))
+known : (c : (Lts.In-loop Tie.the-claims Reads.Pre Reads.Post goal.the-invariant-loop-k goal.the-decreases-loop-k))
     → let a = (start c).args in let l = c.loop-k in Here a.deep (a.deep - a.d) a.bytes.now l.k l.p l.c
 known c = let s = start c in here s.requires.1 c.loop-k.invariant.1 (omega arith) s.requires.0
 
 -- a turn compares word k with its children's sum
-read : (c : (Lts.After-get_field3 Tie.the-claims Reads.Pre Reads.Post goal.the-invariant-loop-k goal.the-decreases-loop-k goal.the-invariant-loop-k-test goal.the-decreases-loop-k-test))
+read : (c : (Lts.After-get_field3 Tie.the-claims Reads.Pre Reads.Post goal.the-invariant-loop-k goal.the-decreases-loop-k))
     → let D = (start c.before.before.before).args.deep in
     let bs = (start c.before.before.before).args.bytes.now in
     let k = c.loop-k.k in
@@ -65,8 +65,8 @@ overflow_add-k c = omega (arith, known c.before.before.before.before.before)
 pub overflow_add-p-in-loop-k : goal.overflow_add-p-in-loop-k
 overflow_add-p-in-loop-k c = omega (arith, known c.before.before.before.before.before)
 
-pub overflow_add-c : goal.overflow_add-c
-overflow_add-c c = omega (arith, known c.before.before)
+pub overflow_add-c-in-loop-k : goal.overflow_add-c-in-loop-k
+overflow_add-c-in-loop-k c = omega (arith, known c.before.before.before.before.before)
 
 pub loop-k-preserved : goal.loop-k-preserved
 loop-k-preserved c =
