@@ -1,5 +1,5 @@
 -- A pin byte and the leaf byte beside it hold the same eight places, and all bytes hold all places: what is tested or cleared in every byte is in every place.
-use mathlib.Core.Path.{◌≡◌, ap, ap₂, ◌∙◌, subst}
+use mathlib.Core.Path.{◌≡◌, sym, ap, ap₂, ◌∙◌, subst}
 use mathlib.Core.Logic.{◌↔◌, inl, inr, ⊎_elim}
 use mathlib.Core.List.{List}
 use Prim.Native.Nat.{ℕ, ◌+◌, ◌-◌, ◌*◌, ◌/◌, ◌%◌, ◌^◌, ◌≤◌, ◌<◌, min}
@@ -32,6 +32,10 @@ in_bytes r =
     let q = quarter r.words in
     let b = bounds r.words in
     record { whole = omega arith; small = q.small; room = omega arith }
+
+-- .. and by the depth
+pub depth_bytes : {D n : ℕ} {bs : List ℕ} → PinRoom D bs → n ≡ 2 ^ (D - 3) → PinsInBytes D n bs
+depth_bytes {D} {n} {bs} r e = subst (λ m. PinsInBytes D m bs) ((quarter r.words).is ∙ sym e) (in_bytes r)
 
 module _ {D n : ℕ} {bs : List ℕ} (w : PinsInBytes D n bs) where
   byte_bit : (b j i : ℕ) → i < 8 → digit (field bs (8 * (b * n + j)) 8) i ≡ bit bs (b * 2 ^ D + (8 * j + i))

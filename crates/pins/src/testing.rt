@@ -1,12 +1,12 @@
 // Whether every pin lies on a leaf bit, eight at a time.
-ghost use Rattle.std.specs.Prelude.{◌<◌};
+ghost use Rattle.std.specs.Prelude.{◌≡◌, ◌-◌, ◌^◌, ◌<◌};
 ghost use Rattle.tables.specs.inner.Says.{Says};
 ghost use Rattle.pins.specs.Pins.{PinsOnLeaves};
-ghost use Rattle.pins.specs.inner.Steps.{PinRoom, PinsInBytes, ByteOnLeaves};
+ghost use Rattle.pins.specs.inner.Steps.{PinRoom, ByteOnLeaves};
 
 // Whether the pins of byte j lie on leaf bits, where the leaf bits fill n bytes, and the pins the n behind them.
 fn byte_on_leaves(bytes: &[u8], deep: usize, n: usize, j: usize) -> bool
-    requires { PinsInBytes deep n bytes.now × (j < n) }
+    requires { PinRoom deep bytes.now × (n ≡ 2 ^ (deep - 3)) × (j < n) }
     ensures { Says (ByteOnLeaves deep bytes.now j) result }
 {
     let leaves = bits::get_byte(bytes, 3 * n + j);

@@ -1,16 +1,18 @@
 -- The loop's invariant: `on` says whether the pins of each byte passed lie on leaf bits.
-use mathlib.Core.Path.{subst⁻¹}
+use mathlib.Core.Path.{◌≡◌, subst⁻¹}
 use mathlib.Core.Bool.{Bool}
 use mathlib.Core.Logic.{⊎_elim}
-use Prim.Native.Nat.{ℕ, ◌+◌, ◌-◌, ◌≤◌, ◌<◌}
+use Prim.Native.Nat.{ℕ, ◌+◌, ◌-◌, ◌*◌, ◌%◌, ◌^◌, ◌≤◌, ◌<◌}
 use native.Mathlib.Omega.{arith}
 use borrow.Author.Count.{below_more}
 use borrow.Author.Tests.{not-true, not-false}
 use Rattle.tables.specs.inner.Says.{Says}
 use Rattle.tables.proofs.Tables.{says_yes, says_no}
 use Rattle.pins.specs.inner.Steps.{PinsInBytes, ByteOnLeaves}
-use Rattle.pins.proofs.PinBytes.{in_bytes, bytes_all, all_bytes}
+use Rattle.words.proofs.Rooms.{quarter}
+use Rattle.pins.proofs.PinBytes.{depth_bytes, bytes_all, all_bytes}
 use Rattle.pins.proofs.testing.pins_on_leaves.Goals as goal
+use Rattle.pins.proofs.testing.pins_on_leaves.Goals.{then-not-byte_on_leaves, else-not-byte_on_leaves}
 
 -- one more is so
 says_also : (P : ℕ → Type 0) (j : ℕ) {b : Bool} → Says ((i : ℕ) → i < j → P i) b → P j → Says ((i : ℕ) → i < j + 1 → P i) b
@@ -23,13 +25,14 @@ pub overflow_shl-n : goal.overflow_shl-n
 overflow_shl-n c = omega (arith, c.requires.words.high)
 
 pub loop-j-init : goal.loop-j-init
-loop-j-init c = (in_bytes c.requires, omega arith, says_yes (λ i h. absurd (omega arith)))
+loop-j-init c =
+    (c.requires, (let e : 1 * 2 ^ (c.args.deep - 3) % 2 ^ 64 ≡ 2 ^ (c.args.deep - 3) = (quarter c.requires.words).is in e), omega arith, says_yes (λ i h. absurd (omega arith)))
 
 pub byte_on_leaves-requires : goal.byte_on_leaves-requires
-byte_on_leaves-requires c = (c.loop-j.invariant.0, omega arith)
+byte_on_leaves-requires c = (c.loop-j.invariant.0, c.loop-j.invariant.1, omega arith)
 
 pub overflow_add-j : goal.overflow_add-j
-overflow_add-j c = omega arith
+overflow_add-j c = omega (arith, depth_bytes c.loop-j.invariant.0 c.loop-j.invariant.1)
 
 pub loop-j-smaller : goal.loop-j-smaller
 loop-j-smaller c = omega arith
@@ -38,17 +41,19 @@ pub loop-j-preserved : goal.loop-j-preserved
 loop-j-preserved c =
     let l = c.loop-j in (
       l.invariant.0,
+      l.invariant.1,
       omega arith,
-      ⊎_elim
-          (λ w. subst⁻¹ (Says _) w.1 (says_no (λ f. c.byte_on_leaves.ensures.no w.0.taken (f l.j (omega arith)))))
-          (λ w. subst⁻¹ (Says _) w.1 (says_also _ l.j l.invariant.2 (c.byte_on_leaves.ensures.yes w.0.left)))
-          c.if-not-byte_on_leaves.branch,
+      elim c.if-not-byte_on_leaves.branch [
+        then-not-byte_on_leaves w ↦ subst⁻¹ (Says _) w.on-is (says_no (λ f. c.byte_on_leaves.ensures.no w.if-not-byte_on_leaves.true (f l.j (omega arith))))
+      | else-not-byte_on_leaves w ↦ subst⁻¹ (Says _) w.on-is (says_also _ l.j l.invariant.3 (c.byte_on_leaves.ensures.yes w.if-not-byte_on_leaves.false))
+      ],
     )
 
 pub returns : goal.returns
 returns c =
-    let l = c.loop-j in
+    let l = c.loop-j.invariant in
+    let w = depth_bytes l.0 l.1 in
     record {
-      yes = λ t. bytes_all l.invariant.0 (λ j h. l.invariant.2.yes t j (omega arith));
-      no = λ t f. l.invariant.2.no t (λ j h. all_bytes l.invariant.0 f j (omega arith));
+      yes = λ t. bytes_all w (λ j h. l.3.yes t j (omega arith));
+      no = λ t f. l.3.no t (λ j h. all_bytes w f j (omega arith));
     }
