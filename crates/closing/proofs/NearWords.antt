@@ -7,10 +7,10 @@ use native.Mathlib.Nat.{zero-div}
 use native.Mathlib.Decide.{ℕ_discrete, dec_le, dec_lt}
 use native.Mathlib.Omega.{arith}
 use lib.ListN.{length}
-use lib.Pow.{pow-add, pow_pos}
+use lib.Pow.{pow-add}
 use Rattle.bits.specs.Bits.{digit, bit, field}
 use Rattle.bits.specs.inner.Puts.{put_field}
-use Rattle.bits.proofs.Laws.{run-digit, bit_lt, digit_lt, bit_in, bit_out, length-put_field, one_shl}
+use Rattle.bits.proofs.Laws.{run-digit, bit_lt, digit_lt, bit_in, bit_out, length-put_field}
 use Rattle.nodes.specs.Depth.{depth_of}
 use Rattle.nodes.specs.Neighbours.{edge}
 use Rattle.nodes.proofs.Depths.{At, pow_next, at_from, at_below, at_depth}
@@ -18,12 +18,11 @@ use Rattle.words.specs.Words.{leaf_bit}
 use Rattle.words.specs.inner.Working.{Room}
 use Rattle.words.proofs.Rooms.{bounds}
 use Rattle.cuts.specs.Cuts.{Cut, named}
-use Rattle.cuts.specs.inner.Steps.{CutPlace}
-use Rattle.cuts.specs.inner.Closing.{Asked, Drawn, Draws, OnlyLeaves, CutsDrawn}
+use Rattle.cuts.specs.inner.Closing.{Asked, Drawn, Draws, CutsDrawn}
 use Rattle.cuts.proofs.Places.{cut_place, cut_place_lem, cut_set}
 use Rattle.cuts.proofs.OneBit.{moved}
 use Rattle.leafwords.proofs.Crossing.{first_none, first_some, second_across, third_across, fourth_across, across_4, across_7, across_8, across_11}
-use Rattle.closing.specs.inner.Wordwise.{NearWord, FarWord, Met, WordDrawn}
+use Rattle.closing.specs.inner.Wordwise.{NearWord, FarWord, WordDrawn}
 
 -- ---- across from each other, four levels below m
 

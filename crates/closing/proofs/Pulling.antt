@@ -9,7 +9,7 @@ use native.Mathlib.Omega.{arith}
 use lib.Bits.{bit_and, bit_or}
 use Rattle.bits.specs.Bits.{digit}
 use Rattle.bits.proofs.Laws.{digit_lt, digit-mod, digit_shift}
-use Rattle.bits.proofs.Digitwise.{and_set, or_set, shl_digit, shl_none}
+use Rattle.bits.proofs.Digitwise.{and_set, or_set, shl_digit}
 use Rattle.closing.specs.inner.Wordwise.{SetIn, placed, sources, Pulled, Met, WordDrawn}
 
 -- ---- sources

@@ -1,47 +1,35 @@
 -- The levels passed ask for nothing that is not cut, and no cut is made that a good set could do without.
-use mathlib.Core.Path.{◌≡◌, refl, ap, ◌∙◌, subst}
+use mathlib.Core.Path.{◌≡◌, refl, subst}
 use mathlib.Core.Logic.{inr}
-use Prim.Native.Nat.{ℕ, ◌+◌, ◌-◌, ◌^◌, ◌≤◌}
+use Prim.Native.Nat.{◌+◌, ◌-◌, ◌^◌}
 use native.Mathlib.Omega.{arith}
-use borrow.Author.Rules.{rules}
 use Rattle.nodes.proofs.Depths.{at_root, depth_is}
 use Rattle.words.specs.Words.{leaf_bit}
 use Rattle.cuts.specs.Cuts.{Cut}
-use Rattle.cuts.specs.inner.Closing.{OnlyLeaves, CutsDrawn}
 use Rattle.cuts.proofs.Places.{cut_range}
 use Rattle.cuts.proofs.ForcedCuts.{smallest_of}
 use Rattle.cuts.proofs.Closing.{Closing, closing_start, closing_level, closing_ends}
 use Rattle.closing.proofs.Drawing.{only_none, only_then, only_room}
-use Rattle.closing.proofs.close_cuts.Lts
-use Rattle.closing.proofs.close_cuts.Reads
-use Rattle.closing.proofs.close_cuts.Tie
 use Rattle.closing.proofs.close_cuts.Goals as goal
 
 pub cut_above-requires : goal.cut_above-requires
 cut_above-requires c = (c.requires, omega arith, omega (arith, c.requires.low, depth_is at_root))
 
--- node 1 is cut
-abbrev start : (Lts.After-slice_known2 Tie.the-claims Reads.Pre Reads.Post goal.the-invariant-loop-d goal.the-decreases-loop-d goal.the-invariant-loop-d-test goal.the-decreases-loop-d-test) → (Lts.Start Tie.the-claims Reads.Pre Reads.Post goal.the-invariant-loop-d goal.the-decreases-loop-d goal.the-invariant-loop-d-test goal.the-decreases-loop-d-test)
-start c = c.before.before.before.before.before
-
-abbrev rooted : (Lts.After-slice_known2 Tie.the-claims Reads.Pre Reads.Post goal.the-invariant-loop-d goal.the-decreases-loop-d goal.the-invariant-loop-d-test goal.the-decreases-loop-d-test) → (Lts.After-cut_above Tie.the-claims Reads.Pre Reads.Post goal.the-invariant-loop-d goal.the-decreases-loop-d goal.the-invariant-loop-d-test goal.the-decreases-loop-d-test)
-rooted c = c.before.before
-
 pub loop-d-init : goal.loop-d-init
 loop-d-init c =
-    let D = (start c.before).args.deep in
-    let bs = (rooted c.before).cut_above.new.bytes in
-    (omega (arith, (start c.before).requires.low), omega arith, only_none D bs, closing_start (λ m h q. omega (arith, cut_range D (leaf_bit D bs) (omega (arith, (start c.before).requires.high)) m q)))
+    let D = c.args.deep in
+    let bs = c.cut_above.new.bytes in
+    (omega (arith, c.requires.low), omega arith, only_none D bs, closing_start (λ m h q. omega (arith, cut_range D (leaf_bit D bs) (omega (arith, c.requires.high)) m q)))
 
 pub draw_level-requires : goal.draw_level-requires
 draw_level-requires c =
-    (only_room (start c.before.before.before).requires (only_then (rooted c.before.before.before).cut_above.ensures.only c.loop-d.invariant.2), omega arith, omega (arith, c.loop-d.invariant.1))
+    (only_room c.requires (only_then c.cut_above.ensures.only c.loop-d.invariant.2), omega arith, omega (arith, c.loop-d.invariant.1))
 
 pub loop-d-preserved : goal.loop-d-preserved
 loop-d-preserved c =
-    let D = (start c.before.before.before.before.before.before.before).args.deep in
+    let D = c.args.deep in
     let d = c.loop-d.d - 1 in
-    let bs = (rooted c.before.before.before.before.before.before.before).cut_above.last.0 in
+    let bs = c.cut_above.new.bytes in
     let e : c.loop-d.d ≡ d + 1 = omega arith in (
       omega arith,
       omega (arith, c.loop-d.invariant.1),
@@ -51,9 +39,9 @@ loop-d-preserved c =
 
 pub returns : goal.returns
 returns c =
-    let r = (rooted c.before.before).cut_above.ensures in
-    let D = (start c.before.before).args.deep in
-    let bs = (rooted c.before.before).cut_above.new.bytes in
+    let r = c.cut_above.ensures in
+    let D = c.args.deep in
+    let bs = c.cut_above.new.bytes in
     let e : c.loop-d.d ≡ 1 = omega (arith, c.loop-d.invariant.0) in
     record {
       only = only_then r.only c.loop-d.invariant.2;

@@ -1,5 +1,4 @@
 -- Both ways through a level promise the same.
-use borrow.Author.Rules.{rules}
 use Rattle.closing.proofs.draw_level.Goals as goal
 
 pub draw_words-requires : goal.draw_words-requires

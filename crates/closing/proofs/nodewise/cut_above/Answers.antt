@@ -1,7 +1,5 @@
 -- The bit that names n is set, or was.
-use mathlib.Core.Path.{sym, ◌∙◌}
-use borrow.Author.Rules.{rules}
-use Rattle.closing.proofs.Drawing.{cut_also, cut_already}
+use Rattle.closing.proofs.Drawing.{cut_also}
 use Rattle.closing.proofs.nodewise.cut_above.Goals as goal
 
 pub returns-then-leaf_bit-ne1 : goal.returns-then-leaf_bit-ne1

@@ -1,8 +1,7 @@
 -- The node and its parent are cut, one after the other.
 use native.Mathlib.Omega.{arith}
-use borrow.Author.Rules.{rules}
 use Rattle.nodes.proofs.Depths.{depth_half}
-use Rattle.closing.proofs.Drawing.{drawn_node, drawn_not, only_room}
+use Rattle.closing.proofs.Drawing.{drawn_node, only_room}
 use Rattle.closing.proofs.nodewise.draw_node.Goals as goal
 
 pub cut_above-requires-then-is_asked : goal.cut_above-requires-then-is_asked

@@ -1,10 +1,8 @@
 -- The nodes passed are drawn; in which order, within a level, does not matter.
 use mathlib.Core.Path.{◌≡◌, subst}
-use Prim.Native.Nat.{ℕ, ◌+◌, ◌-◌, ◌*◌, ◌%◌, ◌^◌, ◌≤◌}
+use Prim.Native.Nat.{◌+◌, ◌*◌, ◌%◌, ◌^◌}
 use native.Mathlib.Omega.{arith}
 use lib.Pow.{pow_mono}
-use borrow.Author.Rules.{rules}
-use Rattle.bits.proofs.Laws.{one_shl}
 use Rattle.nodes.proofs.Depths.{pow_next, at_from, depth_is}
 use Rattle.cuts.specs.inner.Closing.{CutsDrawn}
 use Rattle.closing.proofs.Drawing.{drawn_none, drawn_then, only_room}

@@ -1,12 +1,6 @@
-use mathlib.Core.Path.{◌≡◌, subst}
-use Prim.Native.Nat.{ℕ, ◌+◌, ◌-◌, ◌*◌, ◌%◌, ◌^◌, ◌≤◌}
-use native.Mathlib.Omega.{arith}
-use lib.Pow.{pow_mono}
-use borrow.Author.Rules.{rules}
-use Rattle.bits.proofs.Laws.{one_shl}
-use Rattle.nodes.proofs.Depths.{pow_next, at_from, depth_is}
+use mathlib.Core.Path.{◌≡◌}
+use Prim.Native.Nat.{◌+◌, ◌-◌, ◌^◌, ◌≤◌}
 use Rattle.cuts.specs.inner.Closing.{CutsDrawn}
-use Rattle.closing.proofs.Drawing.{drawn_none, drawn_then, only_room}
 use Rattle.closing.proofs.nodewise.draw_nodes.Given as goal
 
 abbrev pub invariant-loop-n : goal.invariant-loop-n

@@ -1,15 +1,9 @@
 -- The node's own bit says whether it is cut, and else the bit of its edge neighbour, where that is a node.
-use mathlib.Core.Path.{sym, ap, ◌∙◌, subst}
-use mathlib.Core.Logic.{inl, inr, ⊎_elim}
+use mathlib.Core.Path.{ap, ◌∙◌}
 use native.Mathlib.Omega.{arith}
-use borrow.Author.Rules.{rules}
 use Rattle.nodes.specs.Depth.{depth_of}
 use Rattle.nodes.proofs.Depths.{below_depth}
 use Rattle.nodes.proofs.Edges.{edge_depth}
-use Rattle.tables.specs.inner.Says.{Says}
-use Rattle.tables.proofs.Tables.{says_yes, says_no}
-use Rattle.words.specs.Words.{leaf_bit}
-use Rattle.cuts.specs.Cuts.{Cut}
 use Rattle.closing.proofs.nodewise.is_asked.Lts
 use Rattle.closing.proofs.nodewise.is_asked.Reads
 use Rattle.closing.proofs.nodewise.is_asked.Tie

@@ -1,20 +1,13 @@
 -- The words passed are drawn; each has the next sixteen nodes of the level.
 use mathlib.Core.Path.{◌≡◌, ap, ◌∙◌, subst}
-use Prim.Native.Nat.{ℕ, ◌+◌, ◌-◌, ◌*◌, ◌%◌, ◌^◌, ◌≤◌}
+use Prim.Native.Nat.{ℕ, ◌+◌, ◌-◌, ◌*◌, ◌%◌, ◌^◌}
 use native.Mathlib.Omega.{arith}
 use lib.Pow.{pow-add, pow_mono}
-use borrow.Author.Rules.{rules}
 use Rattle.bits.proofs.Laws.{one_shl}
 use Rattle.nodes.proofs.Depths.{pow_next, at_from, depth_is}
 use Rattle.cuts.specs.inner.Closing.{CutsDrawn}
 use Rattle.closing.proofs.Drawing.{drawn_none, drawn_then, only_room}
 use Rattle.closing.proofs.wordwise.draw_words.Goals as goal
-
--- the level's first word, and one past its last
-record Ends (d end : ℕ) : Type 0 where
-  is : end ≡ 2 * 2 ^ (d - 4)
-  first : 2 ^ d ≡ 16 * 2 ^ (d - 4)
-  last : 2 ^ (d + 1) ≡ 32 * 2 ^ (d - 4)
 
 pub loop-m-init : goal.loop-m-init
 loop-m-init c =
@@ -51,5 +44,3 @@ returns c =
 
 pub overflow_sub-end : goal.overflow_sub-end
 overflow_sub-end c = omega (arith, c.requires.1, c.requires.2)
-
--- LEFT inline, one of []: (λ c. c.loop-m.invariant.3.only.long)

@@ -1,7 +1,4 @@
 -- Each pull has one law, and the five together are a drawn word.
-use mathlib.Core.Path.{refl}
-use native.Mathlib.Omega.{arith}
-use borrow.Author.Rules.{rules}
 use Rattle.closing.proofs.Pulling.{word_drawn}
 use Rattle.closing.proofs.wordwise.drawn.Goals as goal
 

@@ -1,6 +1,4 @@
 -- The machine's shifts and masks are those of the law.
-use native.Mathlib.Omega.{arith}
-use borrow.Author.Rules.{rules}
 use Rattle.closing.proofs.Pulling.{pulled}
 use Rattle.closing.proofs.wordwise.pull.Goals as goal
 

@@ -2,10 +2,8 @@
 use mathlib.Core.Path.{◌≡◌, ap, ◌∙◌}
 use Prim.Native.Nat.{ℕ, ◌+◌, ◌-◌, ◌*◌, ◌%◌, ◌^◌}
 use native.Mathlib.Omega.{arith}
-use lib.Pow.{pow-add, pow_mono}
-use borrow.Author.Rules.{rules}
+use lib.Pow.{pow-add}
 use Rattle.bits.proofs.Laws.{one_shl}
-use Rattle.nodes.proofs.Depths.{below_depth}
 use Rattle.closing.proofs.wordwise.word_place.Goals as goal
 
 -- the machine's shift

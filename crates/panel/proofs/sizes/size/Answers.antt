@@ -6,13 +6,9 @@ use native.Mathlib.Omega.{arith}
 use lib.Pow.{pow_mono}
 use Rattle.panel.proofs.Lengths.{size_five}
 use borrow.Author.Rules.{rules}
-use Rattle.panel.proofs.sizes.size.Statement.{statement}
-use Rattle.panel.proofs.sizes.size.Tie as tie
+use Rattle.panel.proofs.sizes.size.Goals as goal
 
-returns : tie.Need-returns
+pub returns : goal.returns
 returns c =
     let D : ℕ = c.args.deep in
     ap (λ (x : ℕ). x / 8) (mod-eq_of_lt (omega (arith, pow_mono {i = D} {j = 17} (omega arith)))) ∙ size_five D
-
-pub size_spec : {M : Type 1} → statement M
-size_spec = tie.close (tie.spec (λ c. search rules) returns)
