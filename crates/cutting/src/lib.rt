@@ -1,4 +1,6 @@
 // Changing the cuts of a panel that was judged good, `deep` its depth. Between two cuts the sums are right.
+#![tactic(auto)]
+
 ghost use Rattle.std.specs.Prelude.{◌≡◌, ◌≤◌, ◌<◌};
 ghost use Rattle.nodes.specs.Depth.{depth_of};
 ghost use Rattle.words.specs.inner.Working.{Room};

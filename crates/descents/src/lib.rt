@@ -1,6 +1,8 @@
 // Going down from node 1 of a good panel to a leaf or a node. Each step is the last thing that a call does, the panel behind one reference: the
 // compiler makes a loop of it, which needs no stack. What comes back is a plain number: a struct comes back through memory, level by level,
 // and no loop can be made of that.
+#![tactic(auto)]
+
 ghost use Rattle.std.specs.Prelude.{◌≡◌, ◌+◌, ◌-◌, ◌/◌, ◌^◌, ◌≤◌, ◌<◌};
 ghost use Rattle.panel.specs.Panels.{Good, number_in};
 ghost use Rattle.panel.specs.Calls.{LeafNumbered};

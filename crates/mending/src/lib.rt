@@ -1,4 +1,6 @@
 // Mending a lent panel: the call `mend`, from bytes of a right length, whatever they hold, to the smallest good panel that holds the cuts they name.
+#![tactic(auto)]
+
 ghost use Rattle.answers.specs.Refusals.{mending_number, mending_added};
 ghost use Rattle.words.specs.inner.Working.{Room};
 ghost use Rattle.panel.specs.Panels.{Fits};

@@ -1,4 +1,6 @@
 // Opening a lent panel: the call `open`.
+#![tactic(auto)]
+
 ghost use Rattle.answers.specs.Refusals.{answer_number};
 ghost use Rattle.tables.specs.inner.Says.{Says};
 ghost use Rattle.panel.specs.Panels.{Fits};

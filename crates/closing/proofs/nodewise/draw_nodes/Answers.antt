@@ -29,5 +29,3 @@ loop-n-preserved c =
 pub returns : goal.returns
 returns c =
     subst (λ n. CutsDrawn c.args.deep (2 ^ c.args.d) n c.args.bytes.now c.loop-n.bytes) (let e : c.loop-n.n ≡ 2 ^ (c.args.d + 1) = omega (arith, c.loop-n.invariant.0, c.loop-n.invariant.2) in e) c.loop-n.invariant.3
-
--- LEFT inline, one of []: (λ c. c.loop-n.invariant.3.only.long)
