@@ -2,7 +2,7 @@
 -- above k, or below it, and then k is cut, or is k.
 use mathlib.Core.Path.{◌≡◌, refl, sym, ap, ap₂, ◌∙◌, subst, subst⁻¹}
 use mathlib.Core.List.{List}
-use mathlib.Core.Bool.{Bool}
+use mathlib.Core.Bool.{Bool, true}
 use mathlib.Core.Logic.{◌⊎◌, ⊎_elim}
 use Prim.Native.Nat.{ℕ, ◌+◌, ◌-◌, ◌*◌, ◌/◌, ◌%◌, ◌^◌, ◌≤◌, ◌<◌}
 use native.Mathlib.Decide.{dec_le, dec_lt}
@@ -190,3 +190,7 @@ ranged {s} {D} {k} e t = record {
   yes = λ h. let x = t.yes h in record { low = x.low; high = subst (λ y. k < 2 ^ (y + 1)) e x.high };
   no = λ h x. t.no h (record { low = x.low; high = subst⁻¹ (λ y. k < 2 ^ (y + 1)) e x.high });
 }
+
+-- .. and past that test it is one
+pub known : {s : List ℕ} {D k : ℕ} {r : Bool} → D ≡ deep_of s → Says (Ranged D k) r → r ≡ true → InRange s k
+known e t = (ranged e t).yes

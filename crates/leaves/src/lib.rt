@@ -1,4 +1,6 @@
 // Finding leaves in a panel that was judged good, `deep` its depth. These are no public calls: a caller judges first.
+#![tactic(auto)]
+
 ghost use Rattle.std.specs.Prelude.{◌≡◌, ◌≤◌, ◌<◌};
 ghost use Rattle.tables.specs.inner.Says.{Says};
 ghost use Rattle.tables.specs.Table.{Answers};

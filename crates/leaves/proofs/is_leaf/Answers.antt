@@ -3,13 +3,9 @@ use mathlib.Core.Path.{sym, ◌∙◌}
 use Rattle.tables.proofs.Tables.{says_equal}
 use Rattle.leaves.proofs.FirstWays.{leaf_cuts}
 use borrow.Author.Rules.{rules}
-use Rattle.leaves.proofs.is_leaf.Statement.{statement}
-use Rattle.leaves.proofs.is_leaf.Tie as tie
+use Rattle.leaves.proofs.is_leaf.Goals as goal
 
-returns : tie.Need-returns
+pub returns : goal.returns
 returns c =
-    let t = c.before.cuts-to.ensures in
+    let t = c.cuts_to.ensures in
     says_equal _ _ (λ e. t.leaf (e ∙ c.depth.ensures)) (λ l. leaf_cuts t l ∙ sym c.depth.ensures)
-
-pub is_leaf_spec : {M : Type 1} → statement M
-is_leaf_spec = tie.close (tie.spec (λ c κs. search rules) (λ c κs. search rules) returns)

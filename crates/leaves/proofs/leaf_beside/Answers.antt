@@ -1,0 +1,15 @@
+-- The sibling's parent, which is cut, is the node's own.
+use mathlib.Core.Path.{◌≡◌, subst}
+use Prim.Native.Nat.{◌/◌}
+use native.Mathlib.Omega.{arith}
+use borrow.Author.Tests.{not-true, not-false}
+use Rattle.tables.specs.inner.Says.{Says}
+use Rattle.words.specs.Words.{leaf_bit}
+use Rattle.cuts.specs.Cuts.{Cut, sibling}
+use Rattle.panel.specs.Panels.{CutOf}
+use Rattle.panel.proofs.Lengths.{good_room}
+use Rattle.leaves.proofs.leaf_beside.Goals as goal
+
+pub is_cut-requires : goal.is_cut-requires
+is_cut-requires c =
+    let p = c.requires in (good_room _ p.0 p.1, rw p.1 (record { low = omega (arith, p.2.low); high = p.2.high }))
