@@ -1,4 +1,6 @@
 // The pins of a panel that was judged good, `deep` its depth. These are no public calls: a caller judges first.
+#![tactic(auto)]
+
 ghost use Rattle.std.specs.Prelude.{◌≡◌, ◌+◌, ◌*◌, ◌<◌};
 ghost use Rattle.nodes.specs.Depth.{depth_of};
 ghost use Rattle.answers.specs.Refusals.{answer_number, answer_ancestor, pinning_number, pinning_bit, pinning_ancestor};

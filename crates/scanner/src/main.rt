@@ -10,6 +10,7 @@ use requests::Ran;
 
 // The files that a program starts with, by the numbers that the system gives them.
 const STANDARD_INPUT: i32 = 0;
+
 const STANDARD_OUTPUT: i32 = 1;
 
 // The bytes of a part: 512 records.

@@ -25,7 +25,7 @@ pub overflow_add-child : goal.overflow_add-child
 overflow_add-child t c = omega (arith, children _ c.requires.0 _ _ _ _ c.requires.1 c.if-word-lt2.false, at_most 1 c.pick-2.ensures (omega arith) (omega arith))
 
 pub overflow_sub-word : goal.overflow_sub-word
-overflow_sub-word t c = 
+overflow_sub-word t c =
     let k = children _ c.requires.0 _ _ _ _ c.requires.1 c.if-word-lt2.false in
     omega (arith, k, c.get_field-l.ensures ∙ k.holds)
 
@@ -33,11 +33,11 @@ pub overflow_sub-left : goal.overflow_sub-left
 overflow_sub-left t c = (children _ c.requires.0 _ _ _ _ c.requires.1 c.if-word-lt2.false).levels
 
 pub leaf_below-requires : goal.leaf_below-requires
-leaf_below-requires t c = 
+leaf_below-requires t c =
     let k = children _ c.requires.0 _ _ _ _ c.requires.1 c.if-word-lt2.false in
     (omega (arith, k.levels, c.decreases), (c.requires.0, (chosen k (c.get_field-l.ensures ∙ k.holds) (more _ c.pick.ensures) (more _ c.pick-2.ensures) c.pick-leaves.ensures c.pick-past.ensures).spot, (fewer (ltb-true c.args.i.0 c.get_field-l.result) (ltb-false c.args.i.0 c.get_field-l.result) c.requires.2 c.pick-leaves.ensures c.pick-past.ensures).1))
 
 pub returns : goal.returns
-returns t c = 
+returns t c =
     let k = children _ c.requires.0 _ _ _ _ c.requires.1 c.if-word-lt2.false in
     subst (λ x. LeafNumbered c.args.panel.now.now x c.leaf_below.result) (omega (arith, (chosen k (c.get_field-l.ensures ∙ k.holds) (more _ c.pick.ensures) (more _ c.pick-2.ensures) c.pick-leaves.ensures c.pick-past.ensures).number, (fewer (ltb-true c.args.i.0 c.get_field-l.result) (ltb-false c.args.i.0 c.get_field-l.result) c.requires.2 c.pick-leaves.ensures c.pick-past.ensures).0)) c.leaf_below.ensures

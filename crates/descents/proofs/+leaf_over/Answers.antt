@@ -21,12 +21,12 @@ pub overflow_add-at : goal.overflow_add-at
 overflow_add-at t c = omega (arith, children _ c.requires.0 _ _ _ _ c.requires.1 c.if-own-lt2.false)
 
 pub overflow_sub-own : goal.overflow_sub-own
-overflow_sub-own t c = 
+overflow_sub-own t c =
     let k = children _ c.requires.0 _ _ _ _ c.requires.1 c.if-own-lt2.false in
     omega (arith, k, c.get_field-l.ensures ∙ k.holds)
 
 pub overflow_add-passed : goal.overflow_add-passed
-overflow_add-passed t c = 
+overflow_add-passed t c =
     let k = children _ c.requires.0 _ _ _ _ c.requires.1 c.if-own-lt2.false in
     omega (arith, k.counts, c.requires.2, at_most c.get_field-l.result c.pick-past.ensures (omega arith) (omega arith), k.sums, c.get_field-l.ensures ∙ k.holds)
 
@@ -34,7 +34,7 @@ pub overflow_sub-left : goal.overflow_sub-left
 overflow_sub-left t c = (children _ c.requires.0 _ _ _ _ c.requires.1 c.if-own-lt2.false).levels
 
 pub leaf_over-requires : goal.leaf_over-requires
-leaf_over-requires t c = 
+leaf_over-requires t c =
     let k = children _ c.requires.0 _ _ _ _ c.requires.1 c.if-own-lt2.false in
     let h = chosen k (c.get_field-l.ensures ∙ k.holds) (more _ c.pick.ensures) (next c.args.n.0 c.args.left _ k.levels (eqb-true _ 0) (eqb-false _ 0)) c.pick-leaves.ensures c.pick-past.ensures in
     (omega (arith, k.levels, c.decreases), (c.requires.0, h.spot, omega (arith, h.number, c.requires.2)))

@@ -21,8 +21,8 @@ end c =
     let low = p.0.fits.low in
     let h = shallow _ p.0 _ p.2 p.1 c.depth.ensures in
     elim c.if-levels-eq0.branch [
-      then-levels-eq0 x ↦ (omega (arith, x.last-is), omega (arith, x.last-is, p.1, low), inr (omega (arith, x.last-is), omega (arith, h, x.if-levels-eq0.true)))
-    | else-levels-eq0 x ↦ (omega (arith, x.last-is, x.if-levels-eq0.false), omega (arith, x.last-is), inl (omega (arith, x.last-is, x.if-levels-eq0.false)))
+      | then-levels-eq0 x ↦ (omega (arith, x.last-is), omega (arith, x.last-is, p.1, low), inr (omega (arith, x.last-is), omega (arith, h, x.if-levels-eq0.true)))
+      | else-levels-eq0 x ↦ (omega (arith, x.last-is, x.if-levels-eq0.false), omega (arith, x.last-is), inl (omega (arith, x.last-is, x.if-levels-eq0.false)))
     ]
 
 pub cuts_toward-requires : goal.cuts_toward-requires

@@ -44,8 +44,8 @@ loop-j-preserved c =
       l.invariant.1,
       omega arith,
       elim c.if-not-byte_on_leaves.branch [
-        then-not-byte_on_leaves w ↦ subst⁻¹ (Says _) w.on-is (says_no (λ f. c.byte_on_leaves.ensures.no w.if-not-byte_on_leaves.true (f l.j (omega arith))))
-      | else-not-byte_on_leaves w ↦ subst⁻¹ (Says _) w.on-is (says_also _ l.j l.invariant.3 (c.byte_on_leaves.ensures.yes w.if-not-byte_on_leaves.false))
+        | then-not-byte_on_leaves w ↦ subst⁻¹ (Says _) w.on-is (says_no (λ f. c.byte_on_leaves.ensures.no w.if-not-byte_on_leaves.true (f l.j (omega arith))))
+        | else-not-byte_on_leaves w ↦ subst⁻¹ (Says _) w.on-is (says_also _ l.j l.invariant.3 (c.byte_on_leaves.ensures.yes w.if-not-byte_on_leaves.false))
       ],
     )
 

@@ -1,0 +1,19 @@
+-- The tests are the two sides of the merge, one by one; at the border there is no other side.
+use mathlib.Core.Path.{sym, ◌∙◌, subst}
+use native.Mathlib.Omega.{arith}
+use Rattle.tables.proofs.Tables.{says_yes, says_no}
+use Rattle.panel.specs.Calls.{Bare}
+use Rattle.cutting.proofs.ToMerge.{parent_low, range_small, across_in}
+use Rattle.pinning.proofs.Pins.{pair_in}
+use Rattle.pinning.proofs.unpinned.Goals as goal
+
+pub edge_of-e-requires : goal.edge_of-e-requires
+edge_of-e-requires c =
+    let p = c.requires in
+    (parent_low p.2.low p.3, omega (arith, range_small p.0.fits p.2))
+
+pub bare-requires-then-bare : goal.bare-requires-then-bare
+bare-requires-then-bare c =
+    let p = c.requires in
+    let w = across_in p.2 p.3 c.edge_of-e.ensures c.if-e-eq0.false in
+    (p.0, p.1, w.0, w.1)
