@@ -1,4 +1,6 @@
 // Splitting and merging in a panel that was judged good, `deep` its depth. These are no public calls: a caller judges first.
+#![tactic(auto)]
+
 ghost use Rattle.std.specs.Prelude.{◌≡◌, ◌<◌};
 ghost use Rattle.nodes.specs.Depth.{depth_of};
 ghost use Rattle.answers.specs.Refusals.{answer_number, answer_ancestor};
