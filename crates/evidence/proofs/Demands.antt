@@ -39,7 +39,7 @@ use Rattle.panel.proofs.GoodPanels.{leaf_areas}
 use Rattle.panel.proofs.LeafRows.{rows_behind}
 use Rattle.panel.proofs.SameBytes.{bytes_same}
 use Rattle.panel.proofs.Once.{judge_one, count_one, leaf_bits_one, leaf_at_one, ancestor_one, number_of_one, pin_of_one, open_one, split_one, merge_one, pin_put_one, mend_one}
-use Rattle.mending.proofs.Once.{mend_judged, mend_counts, mend_holds, SameBits, mend_same, good_unchanged, mend_twice}
+use Rattle.mending.proofs.Once.{mend_good, mend_judged, mend_counts, mend_holds, SameBits, mend_same, good_unchanged, mend_twice}
 use Rattle.records.specs.Records.{kind, number, Fine, record_at, most_records}
 use Rattle.steps.specs.Steps.{panel_in, leaves_in, Step}
 use Rattle.steps.specs.Holding.{Holds}
@@ -56,11 +56,11 @@ use Rattle.requests.proofs.Once.{part_one, run_one}
 use Rattle.requests.proofs.Parts.{parts_one}
 use Rattle.printing.specs.Printing.{Lines}
 use Rattle.printing.proofs.Once.{lines_one, lines_then}
-use Rattle.evidence.specs.Known.{Every, known_cases, KnownRound}
+use Rattle.evidence.specs.Known.{Every, known_cases, mend_cases, KnownRound}
 use Rattle.tables.specs.Exactly.{Exactly}
 use Rattle.tables.proofs.Exactness.{Without, Differing, refused_exactly}
-use Rattle.evidence.proofs.Held.{Held, Since, never_covered}
-use Rattle.evidence.proofs.Known.{known}
+use Rattle.evidence.proofs.Held.{Held, Since, never_covered, mended_stays}
+use Rattle.evidence.proofs.Known.{known, known_mends}
 use Rattle.evidence.proofs.NoLeaf.{WhyNoLeaf, why_no_leaf, SaysWhy, says_why}
 use Rattle.evidence.proofs.Numbers.{NumbersName, numbers_name, number_of_leaf_at, leaf_at_number_of}
 use Rattle.evidence.proofs.Rounds.{round_reached, round_since, known_round}
@@ -90,7 +90,7 @@ settled rows A B kept Done u one = record {
   keeps = λ n x o z. o.refused z;
 }
 
-pub record Demand1 : Type 1 where
+pub record Demand1 : Type 0 where
   pub judge : (s : List ℕ) → Settled (panel_rows s) (Unit {0}) (Any (Unit {0})) tt (λ n x. Judged s n)
   pub count : (s : List ℕ) → Settled (panel_rows s) ℕ (Any ℕ) 0 (Count s)
   pub leaf_bits : (s : List ℕ) → Settled (panel_rows s) (List ℕ) (Any (List ℕ)) [] (LeafBits s)
@@ -102,19 +102,6 @@ pub record Demand1 : Type 1 where
   pub merge : (s : List ℕ) (k : ℕ) → Settled (leaf_rows s k ++ merge_rows s k) (List ℕ) Bytes s (Merge s k)
   pub pin : (s : List ℕ) (k : ℕ) → Settled (leaf_rows s k) (List ℕ) Bytes s (Pin s k)
   pub unpin : (s : List ℕ) (k : ℕ) → Settled (leaf_rows s k) (List ℕ) Bytes s (Unpin s k)
-  pub mend : (s : List ℕ) → Settled (unless 1 (RightLength s) ∷ []) Mended (λ x. Bytes x.panel) (record { panel = s; added = 0 }) (Mend s)
-  -- it counts exactly, takes no named cut back, and reads the leaf bits, but for the first, and the pins alone; a good panel comes back unchanged, and mending
-  -- twice is mending once
-  pub mend_counts : {s : List ℕ} {x : Mended} → Mend s 0 x → leaf_count x.panel ≡ 1 + named_cuts s + x.added
-  pub mend_holds : {s : List ℕ} {x : Mended} → Mend s 0 x → (n : ℕ) → CutOf s n → CutOf x.panel n
-  pub mend_same : (s t : List ℕ) (n m : ℕ) (x y : Mended) → SameBits s t → Bytes x.panel → Bytes y.panel → Mend s n x → Mend t m y
-      → (n ≡ m) × (n ≡ 0 → x ≡ y)
-  pub mend_unchanged : (s : List ℕ) (n : ℕ) (x : Mended) → Bytes s → Bytes x.panel → Good s → Mend s n x → (n ≡ 0) × (x ≡ record { panel = s; added = 0 })
-  pub mend_twice : (s : List ℕ) (n m : ℕ) (x y : Mended) → Bytes x.panel → Bytes y.panel → Mend s n x → Mend x.panel m y
-      → (m ≡ n) × (y ≡ record { panel = x.panel; added = 0 })
-  -- after it no call that judges the panel, with any rows behind, answers 1 or 2
-  pub mend_judged : {s : List ℕ} {x : Mended} {n : ℕ} (rows : List Row) → Mend s 0 x → Without 1 rows → Without 2 rows → Answers (panel_rows x.panel ++ rows) n
-      → (n ≢ 1) × (n ≢ 2)
   -- in range and not a leaf is exactly one of two, and 4 and 10 say which; beside an answer stands one ancestor
   pub no_leaf : (s : List ℕ) → Good s → (k : ℕ) → InRange s k → WhyNoLeaf s k
   pub number_of_why : {s : List ℕ} {k n i : ℕ} → NumberOf s k n i → SaysWhy s k n
@@ -180,13 +167,6 @@ demand_1 = record {
   merge = λ s k. settled _ _ _ _ _ (merge_differs s k) (merge_one s k);
   pin = λ s k. settled _ _ _ _ _ (omega arith) (pin_put_one s k 1);
   unpin = λ s k. settled _ _ _ _ _ (omega arith) (pin_put_one s k 0);
-  mend = λ s. settled _ _ _ _ _ (omega arith) (mend_one s);
-  mend_counts = mend_counts;
-  mend_holds = mend_holds;
-  mend_same = mend_same;
-  mend_unchanged = good_unchanged;
-  mend_twice = mend_twice;
-  mend_judged = mend_judged;
   no_leaf = why_no_leaf;
   number_of_why = λ o. says_why [] (omega arith) o.answer;
   split_why = λ o. says_why (unless 5 _ ∷ []) (omega arith) o.answer;
@@ -322,7 +302,7 @@ demand_2 = record { panel = panel_read; node = node_placed; corners = handed_out
 -- ---- demand 3: any sequence of calls keeps covering and the long side rule; splits are smallest and bounded, merges exact
 
 pub record Demand3 : Type 0 where
-  -- after an accepted open or mending and any outcomes of split, merge, pin and unpin; and after a run of records
+  -- after an accepted open and any outcomes of split, merge, pin and unpin; and after a run of records
   pub good : {t : List ℕ} → Reached t → Good t
   pub covers : {t : List ℕ} → Reached t → CoverOnce (deep_of t) (CutOf t)
   pub long_side : {t : List ℕ} → Reached t → (n : ℕ) → 2 ≤ n → CutOf t n → edge n ≢ 0 → CutOf t (edge n)
@@ -366,4 +346,39 @@ demand_3 = record {
   accepted = back_answers;
   back = back_restores;
   again = again_restores;
+}
+
+-- ---- mending a card: the first demand of it, what it keeps, and what comes after
+
+pub record MendDemand : Type 1 where
+  pub mend : (s : List ℕ) → Settled (unless 1 (RightLength s) ∷ []) Mended (λ x. Bytes x.panel) (record { panel = s; added = 0 }) (Mend s)
+  -- it counts exactly, takes no named cut back, and reads the leaf bits, but for the first, and the pins alone; a good panel comes back unchanged, and mending
+  -- twice is mending once
+  pub mend_counts : {s : List ℕ} {x : Mended} → Mend s 0 x → leaf_count x.panel ≡ 1 + named_cuts s + x.added
+  pub mend_holds : {s : List ℕ} {x : Mended} → Mend s 0 x → (n : ℕ) → CutOf s n → CutOf x.panel n
+  pub mend_same : (s t : List ℕ) (n m : ℕ) (x y : Mended) → SameBits s t → Bytes x.panel → Bytes y.panel → Mend s n x → Mend t m y
+      → (n ≡ m) × (n ≡ 0 → x ≡ y)
+  pub mend_unchanged : (s : List ℕ) (n : ℕ) (x : Mended) → Bytes s → Bytes x.panel → Good s → Mend s n x → (n ≡ 0) × (x ≡ record { panel = s; added = 0 })
+  pub mend_twice : (s : List ℕ) (n m : ℕ) (x y : Mended) → Bytes x.panel → Bytes y.panel → Mend s n x → Mend x.panel m y
+      → (m ≡ n) × (y ≡ record { panel = x.panel; added = 0 })
+  -- after it no call that judges the panel, with any rows behind, answers 1 or 2
+  pub mend_judged : {s : List ℕ} {x : Mended} {n : ℕ} (rows : List Row) → Mend s 0 x → Without 1 rows → Without 2 rows → Answers (panel_rows x.panel ++ rows) n
+      → (n ≢ 1) × (n ≢ 2)
+  -- what it leaves is good; a good panel keeps whatever holds of it
+  pub good : {s : List ℕ} {x : Mended} → Mend s 0 x → Good x.panel
+  pub stays : {t : List ℕ} {n : ℕ} {x : Mended} (P : List ℕ → Type 0) → Bytes t → Bytes x.panel → Mend t n x → Good t → P t → P x.panel
+  pub cases : Every mend_cases
+
+pub mend_demand : MendDemand
+mend_demand = record {
+  mend = λ s. settled _ _ _ _ _ (omega arith) (mend_one s);
+  mend_counts = mend_counts;
+  mend_holds = mend_holds;
+  mend_same = mend_same;
+  mend_unchanged = good_unchanged;
+  mend_twice = mend_twice;
+  mend_judged = mend_judged;
+  good = mend_good;
+  stays = mended_stays;
+  cases = known_mends;
 }

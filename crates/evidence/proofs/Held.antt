@@ -26,14 +26,13 @@ pub record Held (t : List ℕ) (l : ℕ) : Type 0 where
   pub there : LeafOf t l ⊎ CutOf t l
   pub pins : (m j : ℕ) → LeafOf t m → InsideBy j m l → Pinned t m
 
--- the panels that any outcomes of split, merge, pin, unpin and mend lead to from s, where no unpin of a leaf inside l is done
+-- the panels that any outcomes of split, merge, pin and unpin lead to from s, where no unpin of a leaf inside l is done
 pub data Since (s : List ℕ) (l : ℕ) : List ℕ → Type 0 where
   start : Since s l s
   split : {t u : List ℕ} {k n : ℕ} → Since s l t → Split t k n u → Since s l u
   merged : {t u : List ℕ} {k n : ℕ} → Since s l t → Merge t k n u → Since s l u
   pinned : {t u : List ℕ} {k n : ℕ} → Since s l t → Pin t k n u → Since s l u
   unpinned : {t u : List ℕ} {k n : ℕ} → Since s l t → Unpin t k n u → (n ≡ 0 → (j : ℕ) → InsideBy j k l → ⊥) → Since s l u
-  mended : {t : List ℕ} {n : ℕ} {x : Mended} → Since s l t → Bytes t → Bytes x.panel → Mend t n x → Since s l x.panel
 
 held_first : {s : List ℕ} {l : ℕ} → Good s → LeafOf s l → Pinned s l → Held s l
 held_first {s} {l} G L p = record { there = inl L; pins = λ m j M e. subst⁻¹ (Pinned s) (same_leaf G.cuts j M L e) p }
@@ -140,7 +139,7 @@ or_kept {n = n} {l} {t} {u} H o f = go (ℕ_discrete n 0)
     go (no z) = subst⁻¹ (λ x. Held x l) (o.refused z) H
 
 -- a good panel that is mended stays as it is
-mended_stays : {t : List ℕ} {n : ℕ} {x : Mended} (P : List ℕ → Type 0) → Bytes t → Bytes x.panel → Mend t n x → Good t → P t → P x.panel
+pub mended_stays : {t : List ℕ} {n : ℕ} {x : Mended} (P : List ℕ → Type 0) → Bytes t → Bytes x.panel → Mend t n x → Good t → P t → P x.panel
 mended_stays {t} {n} {x} P bt bx o G = subst⁻¹ P (ap (λ (y : Mended). y.panel) (good_unchanged t n x bt bx G o).1)
 
 -- ---- any run of calls
@@ -154,7 +153,6 @@ since_good {s} {l = l} G a = go a
     go (merged r o) = stays_good (λ x d. d.good) (go r) o
     go (pinned r o) = (put_stays (omega arith) (go r) o).0
     go (unpinned r o f) = (put_stays (omega arith) (go r) o).0
-    go (mended r bt bx o) = let T = go r in mended_stays Good bt bx o T T
 
 pub never_covered : {s t : List ℕ} {l : ℕ} → Good s → LeafOf s l → Pinned s l → Since s l t → Held t l
 never_covered {s} {l = l} G L p a = go a
@@ -169,4 +167,3 @@ never_covered {s} {l = l} G L p a = go a
         let H = go r in or_kept H o (λ z. held_put (since_good G r) H (omega arith) (put_leaf o z) (o.done z) (λ w. absurd (w refl)))
     go (unpinned r o f) =
         let H = go r in or_kept H o (λ z. held_put (since_good G r) H (omega arith) (put_leaf o z) (o.done z) (λ _. f z))
-    go (mended r bt bx o) = mended_stays (λ t. Held t l) bt bx o (since_good G r) (go r)

@@ -22,7 +22,7 @@ use Rattle.panel.specs.Calls.{Fresh, Open, merge_rows}
 use Rattle.pins.specs.Pins.{pin_bit}
 use Rattle.panel.proofs.LeafRows.{rows_behind}
 use Rattle.panel.proofs.Rows.{is_good}
-use Rattle.evidence.specs.Known.{Case, judged, opens, splits, merges, pins, unpins, mends, pinned, refused, neighbours, corners, Holds, Every, known_cases}
+use Rattle.evidence.specs.Known.{Case, judged, opens, splits, merges, pins, unpins, mends, pinned, refused, neighbours, corners, Holds, Every, known_cases, mend_cases}
 use Rattle.evidence.proofs.Saying.{◌and◌, up_to, same_list, same_list_lem, first_no}
 use Rattle.evidence.proofs.Testing.{cut_in, good_in, leaf_in, forced_in, fits_in, sums_in, right_in, pins_in, good_panel, good_shown}
 use Rattle.evidence.proofs.Calling.{leaves_in, leaves_shown, fresh_in, fresh_shown, passed_in, split_in, split_shown, kept_in, merge_in, merge_shown, pin_in, pin_shown, split_rows, split_tests, split_tested, merge_tests, merge_tested, leaf_tests, leaf_alone, pin_of_in, pin_of_shown, ancestor_in, refused_in, refused_shown, changed, changed_shown}
@@ -88,8 +88,15 @@ all_sound [] e = tt
 all_sound (c ∷ cs) e = (sound c e.0, all_sound cs e.1)
 
 tested : Tested known_cases
-unfolding test known_node up_to same_list first_no cut_in good_in leaf_in forced_in fits_in sums_in right_in pins_in good_panel leaves_in fresh_in passed_in split_in kept_in merge_in pin_in pin_of_in split_tests merge_tests leaf_tests ancestor_in refused_in changed below_in mend_in mends_in run word leaf_bit pin_bit rank depth_of depth_in neighbours_of neighbours_at corners_of corners_at
-tested = (refl, (refl, (refl, (refl, (refl, (refl, (refl, (refl, (refl, (refl, (refl, (refl, (refl, (refl, (refl, (refl, (refl, (refl, (refl, (refl, (refl, (refl, (refl, (refl, (refl, (refl, (refl, (refl, (refl, (refl, (refl, (refl, (refl, (refl, (refl, (refl, (refl, (refl, (refl, tt)))))))))))))))))))))))))))))))))))))))
+unfolding test known_node up_to same_list first_no cut_in good_in leaf_in forced_in fits_in sums_in right_in pins_in good_panel leaves_in fresh_in passed_in split_in kept_in merge_in pin_in pin_of_in split_tests merge_tests leaf_tests ancestor_in refused_in changed run word leaf_bit pin_bit rank depth_of depth_in neighbours_of neighbours_at corners_of corners_at
+tested = (refl, (refl, (refl, (refl, (refl, (refl, (refl, (refl, (refl, (refl, (refl, (refl, (refl, (refl, (refl, (refl, (refl, (refl, (refl, (refl, (refl, (refl, (refl, (refl, (refl, (refl, (refl, (refl, (refl, (refl, (refl, tt)))))))))))))))))))))))))))))))
 
 pub known : Every known_cases
 known = all_sound known_cases tested
+
+mends_tested : Tested mend_cases
+unfolding test known_node up_to same_list first_no cut_in good_in leaf_in forced_in fits_in sums_in right_in pins_in good_panel leaves_in fresh_in passed_in split_in kept_in merge_in pin_in pin_of_in split_tests merge_tests leaf_tests ancestor_in refused_in changed below_in mend_in mends_in run word leaf_bit pin_bit rank depth_of depth_in neighbours_of neighbours_at corners_of corners_at
+mends_tested = (refl, (refl, (refl, (refl, (refl, (refl, (refl, (refl, tt))))))))
+
+pub known_mends : Every mend_cases
+known_mends = all_sound mend_cases mends_tested

@@ -12,22 +12,19 @@ use Rattle.tables.specs.Table.{Row, unless, Answers, Outcome}
 use Rattle.tables.proofs.Tables.{answers_one, is_done}
 use Rattle.cuts.specs.Cuts.{CoverOnce}
 use Rattle.panel.specs.Panels.{deep_of, CutOf, Good, LeafOf, leaf_count}
-use Rattle.panel.specs.Calls.{leaf_rows, Open, SplitAt, Split, Together, Unpinned, MergeAt, merge_rows, Merge, Pin, Unpin, Mended, Mend}
+use Rattle.panel.specs.Calls.{leaf_rows, Open, SplitAt, Split, Together, Unpinned, MergeAt, merge_rows, Merge, Pin, Unpin}
 use Rattle.panel.proofs.Pinning.{put_stays}
 use Rattle.panel.proofs.GoodPanels.{covers}
 use Rattle.panel.proofs.LeafRows.{is_leaf, leaf_past, row_past}
-use Rattle.mending.proofs.Once.{mend_good}
 use Rattle.evidence.proofs.Growth as growth
 use Rattle.panel.proofs.Once.{split_one}
 use Rattle.evidence.proofs.ThereAndBack.{PinnedAround, split_leaf, split_deep, split_together, split_unpinned, dec_around, split_merge_back, split_merge_leaf, merge_leaf, merge_deep, merge_split}
 
 -- ---- any run of calls
 
--- a panel that an accepted open, or an accepted mending of any bytes, and any run of outcomes of split, merge, pin and unpin leave, refused
--- ones among them
+-- a panel that an accepted open and any run of outcomes of split, merge, pin and unpin leave, refused ones among them
 pub data Reached : List ℕ → Type 0 where
   opened : {s t : List ℕ} (D : ℕ) → Open s D 0 t → Reached t
-  mended : {s : List ℕ} {x : Mended} → Mend s 0 x → Reached x.panel
   split : {s t : List ℕ} (k n : ℕ) → Reached s → Split s k n t → Reached t
   merged : {s t : List ℕ} (k n : ℕ) → Reached s → Merge s k n t → Reached t
   pinned : {s t : List ℕ} (k n : ℕ) → Reached s → Pin s k n t → Reached t
@@ -44,7 +41,6 @@ stays_good {n} {s} {t} f g o = go (ℕ_discrete n 0)
 
 pub always_good : {t : List ℕ} → Reached t → Good t
 always_good (opened D o) = (o.done refl).good
-always_good (mended o) = mend_good o
 always_good (split k n r o) = stays_good (λ x d. d.good) (always_good r) o
 always_good (merged k n r o) = stays_good (λ x d. d.good) (always_good r) o
 always_good (pinned k n r o) = (put_stays (omega arith) (always_good r) o).0

@@ -142,7 +142,7 @@ known_cases =
     ∷ neighbours 17 30 16 18
     ∷ corners 10 (triangle (point 0 0) (point 128 0) (point 128 128))
     ∷ corners 4 (triangle (point 0 0) (point 128 128) (point 0 256))
-    ∷ pin_cases ++ mend_cases
+    ∷ pin_cases
 
 -- ---- a round, by 02, W1
 

@@ -1,4 +1,6 @@
 // Functions that are no public calls, exported for measuring alone.
+#![tactic(auto)]
+
 ghost use Rattle.std.specs.Prelude.{◌≡◌, ◌^◌, ◌≤◌, ◌<◌};
 ghost use Rattle.nodes.specs.Neighbours.{edge};
 ghost use Rattle.tables.specs.inner.Says.{Says};

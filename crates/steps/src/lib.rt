@@ -1,4 +1,6 @@
 // One record: the call that it asks for, on the panel at the start of the lent buffer. `deep` is its depth, or 0 where none is open.
+#![tactic(auto)]
+
 ghost use Rattle.std.specs.Prelude.{◌≡◌, ◌≤◌};
 ghost use Rattle.answers.specs.Refusals.{refusal_number, answer_number};
 ghost use Rattle.tables.specs.inner.Says.{Says};
