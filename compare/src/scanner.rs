@@ -81,7 +81,7 @@ fn printed(file: &[u8], comes: Comes, random: &mut Random) -> io::Result<String>
 
 fn one(tally: &mut Tally, random: &mut Random, file: &[u8], comes: Comes) -> Compared {
     let scanner = printed(file, comes, random)
-        .map_err(|e| Difference(format!("target/bin/scanner: {e}; `rt check scanner` builds it")))?;
+        .map_err(|e| Difference(format!("target/bin/scanner: {e}; `.ci/program scanner` builds it")))?;
     let run = requests::run(file);
     let second = run.printed();
     if scanner != second {
