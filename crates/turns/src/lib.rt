@@ -1,4 +1,6 @@
 // Records in turn on a lent buffer: what a run of the program and a round have in common.
+#![tactic(auto)]
+
 ghost use Rattle.std.specs.Prelude.{◌+◌, ◌*◌, ◌≤◌, length};
 ghost use Rattle.steps.specs.Holding.{Holds};
 ghost use Rattle.turns.specs.Runs.{Runs};
