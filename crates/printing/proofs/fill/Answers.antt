@@ -2,7 +2,6 @@
 use Prim.Native.Nat.{◌+◌, ◌-◌}
 use native.Mathlib.Omega.{arith}
 use lib.ListN.{length}
-use borrow.Author.Tests.{leb-true, leb-false}
 use borrow.Author.Rules.{rules}
 use Rattle.lines.specs.inner.Adding.{longest}
 use Rattle.printing.specs.Printing.Lines.{none}
@@ -14,14 +13,13 @@ loop-upto-init c = record { forward = search rules; within = search rules; room 
 
 pub loop-upto-preserved : goal.loop-upto-preserved
 loop-upto-preserved c =
-    filled_more c.loop-upto.invariant c.loop-upto-test.true (leb-true _ _ c.if-size-block.true) c.numbers-two.ensures c.add-size.auto.out c.add-size.ensures
+    filled_more c.loop-upto.invariant c.loop-upto-test.true c.if-size-block.true c.numbers-two.ensures c.add-size.auto.out c.add-size.ensures
 
 pub returns-else-size-block : goal.returns-else-size-block
 returns-else-size-block c =
     let h = c.loop-upto.invariant in
-    let full = leb-false (c.loop-upto.size + longest) (length c.loop-upto.block) c.if-size-block.false in
     let e = c.line_count-n.ensures in
-    record { lines = h.text; from_lt_upto = (omega (arith, h.room, h.long, h.forward, full, c.requires.2), omega (arith, h.within, e), filled_counts h) }
+    record { lines = h.text; from_lt_upto = (omega (arith, h.room, h.long, h.forward, c.if-size-block.false, c.requires.2), omega (arith, h.within, e), filled_counts h) }
 
 pub returns-after-loop-upto : goal.returns-after-loop-upto
 returns-after-loop-upto c =

@@ -12,21 +12,7 @@ use Rattle.steps.proofs.Parts.{is_open, leaves_count}
 use Rattle.printing.specs.Printing.{Numbers}
 use Rattle.printing.specs.Printing.Numbers.{answer}
 use Rattle.printing.proofs.Showing.{leaf_numbers, few_leaves}
-use Rattle.printing.proofs.numbers.Lts
-use Rattle.printing.proofs.numbers.Reads
-use Rattle.printing.proofs.numbers.Tie
 use Rattle.printing.proofs.numbers.Goals as goal
-
--- past the first test the line is a leaf's, and so a panel is open
-module _ (c : (Lts.Else1 Tie.the-claims Reads.Pre Reads.Post)) where
-  abbrev args : (Lts.Start Tie.the-claims Reads.Pre Reads.Post)
-  args = c
-
-  in_leaves : args.args.j - length args.args.answers.now < leaves_in args.args.deep args.args.buffer.now
-  in_leaves = omega (arith, c.if-j-answers.false, args.requires.1)
-
-  opened : args.args.deep ≢ 0
-  opened = is_open args.args.deep _ args.args.buffer.now in_leaves
 
 pub returns-then-j-answers : goal.returns-then-j-answers
 returns-then-j-answers c =
@@ -34,8 +20,11 @@ returns-then-j-answers c =
     subst⁻¹ (Numbers a.answers.now a.deep a.buffer.now a.j (a.j + 1)) c.wide.ensures (answer c.if-j-answers.true)
 
 pub overflow_cast-i : goal.overflow_cast-i
-overflow_cast-i c = record { fits = few_leaves (args c).requires.0.holds (in_leaves c) }
+overflow_cast-i c =
+    let h : c.args.j - length c.args.answers.now < leaves_in c.args.deep c.args.buffer.now = omega (arith, c.if-j-answers.false, c.requires.1) in
+    record { fits = few_leaves c.requires.0.holds h }
 
 pub returns : goal.returns
 returns c =
-    leaf_numbers (omega (arith, c.if-j-answers.false)) (in_leaves c) c.size-len.ensures c.leaf_at-k.ensures
+    let h : c.args.j - length c.args.answers.now < leaves_in c.args.deep c.args.buffer.now = omega (arith, c.if-j-answers.false, c.requires.1) in
+    leaf_numbers (omega (arith, c.if-j-answers.false)) h c.size-len.ensures c.leaf_at-k.ensures

@@ -30,7 +30,7 @@ pub loop-i-preserved : goal.loop-i-preserved
 loop-i-preserved c =
     filled_more c.loop-i.invariant c.loop-i-test.true c.record_at.ensures c.number.ensures c.step-done.ensures
     (λ i. (c.slice_known-in-loop-i-1.given i).fits)
-    c.step-done.auto.1.0
+    c.step-done.auto.buffer
 
 pub returns : goal.returns
 returns c = filled_all c.loop-i.invariant c.loop-i-test.false
