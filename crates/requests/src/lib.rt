@@ -1,4 +1,6 @@
 // Runs of request records on a lent buffer.
+#![tactic(auto)]
+
 ghost use Rattle.std.specs.Prelude.{◌≤◌, min, length};
 ghost use Rattle.records.specs.Records.{most_records};
 ghost use Rattle.steps.specs.Holding.{Holds};

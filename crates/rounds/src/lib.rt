@@ -1,4 +1,6 @@
 // The call `round`: a run of records on a lent panel, which is judged once.
+#![tactic(auto)]
+
 ghost use Rattle.answers.specs.Refusals.{answer_number};
 ghost use Rattle.rounds.specs.Rounds.{Round};
 
