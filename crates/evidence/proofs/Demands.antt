@@ -56,7 +56,7 @@ use Rattle.requests.proofs.Once.{part_one, run_one}
 use Rattle.requests.proofs.Parts.{parts_one}
 use Rattle.printing.specs.Printing.{Lines}
 use Rattle.printing.proofs.Once.{lines_one, lines_then}
-use Rattle.evidence.specs.Known.{Every, known_cases, mend_cases, KnownRound}
+use Rattle.evidence.specs.Known.{Every, known_cases, EveryMend, mend_cases, KnownRound}
 use Rattle.tables.specs.Exactly.{Exactly}
 use Rattle.tables.proofs.Exactness.{Without, Differing, refused_exactly}
 use Rattle.evidence.proofs.Held.{Held, Since, never_covered, mended_stays}
@@ -367,7 +367,7 @@ pub record MendDemand : Type 1 where
   -- what it leaves is good; a good panel keeps whatever holds of it
   pub good : {s : List ℕ} {x : Mended} → Mend s 0 x → Good x.panel
   pub stays : {t : List ℕ} {n : ℕ} {x : Mended} (P : List ℕ → Type 0) → Bytes t → Bytes x.panel → Mend t n x → Good t → P t → P x.panel
-  pub cases : Every mend_cases
+  pub cases : EveryMend mend_cases
 
 pub mend_demand : MendDemand
 mend_demand = record {

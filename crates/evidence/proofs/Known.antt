@@ -22,7 +22,7 @@ use Rattle.panel.specs.Calls.{Fresh, Open, merge_rows}
 use Rattle.pins.specs.Pins.{pin_bit}
 use Rattle.panel.proofs.LeafRows.{rows_behind}
 use Rattle.panel.proofs.Rows.{is_good}
-use Rattle.evidence.specs.Known.{Case, judged, opens, splits, merges, pins, unpins, mends, pinned, refused, neighbours, corners, Holds, Every, known_cases, mend_cases}
+use Rattle.evidence.specs.Known.{Case, judged, opens, splits, merges, pins, unpins, pinned, refused, neighbours, corners, Holds, Every, known_cases, MendCase, mends, MendHolds, EveryMend, mend_cases}
 use Rattle.evidence.proofs.Saying.{◌and◌, up_to, same_list, same_list_lem, first_no}
 use Rattle.evidence.proofs.Testing.{cut_in, good_in, leaf_in, forced_in, fits_in, sums_in, right_in, pins_in, good_panel, good_shown}
 use Rattle.evidence.proofs.Calling.{leaves_in, leaves_shown, fresh_in, fresh_shown, passed_in, split_in, split_shown, kept_in, merge_in, merge_shown, pin_in, pin_shown, split_rows, split_tests, split_tested, merge_tests, merge_tested, leaf_tests, leaf_alone, pin_of_in, pin_of_shown, ancestor_in, refused_in, refused_shown, changed, changed_shown}
@@ -50,7 +50,6 @@ test (splits s k n t ks) = changed (split_rows s k) (split_tests s k) (split_in 
 test (merges s k n t ks) = changed (rows_behind s k (merge_rows s k)) (merge_tests s k) (merge_in s k t) s n t ks
 test (pins s k n t ks) = changed (rows_behind s k []) (leaf_tests s k []) (pin_in s k 1 t) s n t ks
 test (unpins s k n t ks) = changed (rows_behind s k []) (leaf_tests s k []) (pin_in s k 0 t) s n t ks
-test (mends s n a t ks) = mends_in s n a t ks
 test (pinned s k v) = pin_of_in s k v
 test (refused s k n a) = refused_in s k n a
 test (neighbours n l r e) =
@@ -67,7 +66,6 @@ sound (splits s k n t ks) e = changed_shown (split_rows s k) (split_tests s k) n
 sound (merges s k n t ks) e = changed_shown (rows_behind s k (merge_rows s k)) (merge_tests s k) n ks (λ S. merge_tested S k) (merge_shown k) e
 sound (pins s k n t ks) e = changed_shown (rows_behind s k []) (leaf_tests s k []) n ks (λ S. leaf_alone S k) (λ _ _. pin_shown k 1) e
 sound (unpins s k n t ks) e = changed_shown (rows_behind s k []) (leaf_tests s k []) n ks (λ S. leaf_alone S k) (λ _ _. pin_shown k 0) e
-sound (mends s n a t ks) e = mends_shown s n a t ks e
 sound (pinned s k v) e = pin_of_shown s k v e
 sound (refused s k n a) e = refused_shown s k n a e
 sound (neighbours n l r e) z =
@@ -94,9 +92,24 @@ tested = (refl, (refl, (refl, (refl, (refl, (refl, (refl, (refl, (refl, (refl, (
 pub known : Every known_cases
 known = all_sound known_cases tested
 
-mends_tested : Tested mend_cases
-unfolding test known_node up_to same_list first_no cut_in good_in leaf_in forced_in fits_in sums_in right_in pins_in good_panel leaves_in fresh_in passed_in split_in kept_in merge_in pin_in pin_of_in split_tests merge_tests leaf_tests ancestor_in refused_in changed below_in mend_in mends_in run word leaf_bit pin_bit rank depth_of depth_in neighbours_of neighbours_at corners_of corners_at
+mend_test : MendCase → Bool
+mend_test (mends s n a t ks) = mends_in s n a t ks
+
+mend_sound : (c : MendCase) → So (mend_test c) → MendHolds c
+unfolding mend_test
+mend_sound (mends s n a t ks) e = mends_shown s n a t ks e
+
+abbrev MendsTested : List MendCase → Type 0
+MendsTested [] = Unit {0}
+MendsTested (c ∷ cs) = So (mend_test c) × MendsTested cs
+
+mends_sound : (cs : List MendCase) → MendsTested cs → EveryMend cs
+mends_sound [] e = tt
+mends_sound (c ∷ cs) e = (mend_sound c e.0, mends_sound cs e.1)
+
+mends_tested : MendsTested mend_cases
+unfolding mend_test known_node up_to same_list first_no cut_in good_in leaf_in forced_in fits_in sums_in right_in pins_in good_panel leaves_in fresh_in passed_in split_in kept_in merge_in pin_in pin_of_in split_tests merge_tests leaf_tests ancestor_in refused_in changed below_in mend_in mends_in run word leaf_bit pin_bit rank depth_of depth_in neighbours_of neighbours_at corners_of corners_at
 mends_tested = (refl, (refl, (refl, (refl, (refl, (refl, (refl, (refl, tt))))))))
 
-pub known_mends : Every mend_cases
-known_mends = all_sound mend_cases mends_tested
+pub known_mends : EveryMend mend_cases
+known_mends = mends_sound mend_cases mends_tested

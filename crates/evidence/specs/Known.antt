@@ -16,8 +16,6 @@ pub data Case : Type 0 where
   opens : (D : ℕ) (panel leaves : List ℕ) → Case
   -- split, merge, pin or unpin of node k
   splits merges pins unpins : (before : List ℕ) (k answer : ℕ) (after leaves : List ℕ) → Case
-  -- mend of any bytes, with the cuts added; the leaves are those of the panel where it is done
-  mends : (before : List ℕ) (answer added : ℕ) (after leaves : List ℕ) → Case
   -- the pin of leaf k is v
   pinned : (panel : List ℕ) (k v : ℕ) → Case
   -- all calls that take a leaf are refused node k, with an ancestor or 0 beside
@@ -56,7 +54,6 @@ Holds (splits s k n t ks) = Split s k n t × Leaves t ks
 Holds (merges s k n t ks) = Merge s k n t × Leaves t ks
 Holds (pins s k n t ks) = Pin s k n t × Leaves t ks
 Holds (unpins s k n t ks) = Unpin s k n t × Leaves t ks
-Holds (mends s n a t ks) = Mend s n (record { panel = t; added = a }) × (n ≡ 0 → Leaves t ks)
 Holds (pinned s k v) = PinOf s k 0 v
 Holds (refused s k n a) = Refused s k n a
 Holds (neighbours n l r e) = Neighbours n 0 (around l r e)
@@ -107,20 +104,6 @@ pin_cases =
     ∷ merges (five_leaves 0x10) 9 0 (four_leaves 0x10) (4 ∷ 5 ∷ 6 ∷ 7 ∷ [])
     ∷ []
 
--- no bit set, and all; a good panel; one deep cut named, with all pins set; two pinned leaves that get cut; a pin where no leaf is; a cut at
--- D = 4 that asks for one across; a length of no depth
-abbrev pub mend_cases : List Case
-mend_cases =
-    mends (0 ∷ 0 ∷ 0 ∷ 0 ∷ 0 ∷ []) 0 1 (opened 0) (2 ∷ 3 ∷ [])
-    ∷ mends (0xFF ∷ 0xFF ∷ 0xFF ∷ 0xFF ∷ 0xFF ∷ []) 0 0 (all_cut 0xFF) (8 ∷ 9 ∷ 10 ∷ 11 ∷ 12 ∷ 13 ∷ 14 ∷ 15 ∷ [])
-    ∷ mends (five_leaves 0x04) 0 0 (five_leaves 0x04) (8 ∷ 9 ∷ 5 ∷ 6 ∷ 7 ∷ [])
-    ∷ mends (0 ∷ 0 ∷ 0 ∷ 0x02 ∷ 0xFF ∷ []) 0 3 (five_leaves 0x57) (8 ∷ 9 ∷ 5 ∷ 6 ∷ 7 ∷ [])
-    ∷ mends (0x8C ∷ 0x24 ∷ 0x11 ∷ 0x13 ∷ 0x11 ∷ []) 0 2 (five_leaves 0x11) (8 ∷ 9 ∷ 5 ∷ 6 ∷ 7 ∷ [])
-    ∷ mends (four_leaves 0x02) 0 0 (four_leaves 0) (4 ∷ 5 ∷ 6 ∷ 7 ∷ [])
-    ∷ mends (0 ∷ 0 ∷ 0 ∷ 0 ∷ 0 ∷ 0 ∷ 0x03 ∷ 0 ∷ 0 ∷ 0 ∷ []) 0 6 (eight_deeper 0) (16 ∷ 17 ∷ 9 ∷ 5 ∷ 6 ∷ 14 ∷ 30 ∷ 31 ∷ [])
-    ∷ mends (0x8C ∷ 0x24 ∷ 0x11 ∷ 0x11 ∷ []) 1 0 (0x8C ∷ 0x24 ∷ 0x11 ∷ 0x11 ∷ []) []
-    ∷ []
-
 -- open 3, then split 2, then split 4; all cut; split 8 at D = 4; three merges; nodes that are cut, and below a leaf; neighbours; corners
 abbrev pub known_cases : List Case
 known_cases =
@@ -157,3 +140,30 @@ known_records = asks 1 2 ++ asks 1 8 ++ asks 3 4 ++ asks 1 4 ++ asks 2 5
 -- a sixth answer byte stays
 abbrev pub KnownRound : Type 0
 KnownRound = Round (opened 0) known_records (1 ∷ 1 ∷ 1 ∷ 1 ∷ 1 ∷ 0xEE ∷ []) 0 (record { panel = five_leaves 0; answers = 0 ∷ 10 ∷ 9 ∷ 0 ∷ 7 ∷ 0xEE ∷ [] })
+
+-- ---- mending, by 02, W13
+
+-- mend of any bytes, with the cuts added; the leaves are those of the panel where it is done
+pub data MendCase : Type 0 where
+  mends : (before : List ℕ) (answer added : ℕ) (after leaves : List ℕ) → MendCase
+
+abbrev pub MendHolds : MendCase → Type 0
+MendHolds (mends s n a t ks) = Mend s n (record { panel = t; added = a }) × (n ≡ 0 → Leaves t ks)
+
+abbrev pub EveryMend : List MendCase → Type 0
+EveryMend [] = Unit {0}
+EveryMend (c ∷ cs) = MendHolds c × EveryMend cs
+
+-- no bit set, and all; a good panel; one deep cut named, with all pins set; two pinned leaves that get cut; a pin where no leaf is; a cut at
+-- D = 4 that asks for one across; a length of no depth
+abbrev pub mend_cases : List MendCase
+mend_cases =
+    mends (0 ∷ 0 ∷ 0 ∷ 0 ∷ 0 ∷ []) 0 1 (opened 0) (2 ∷ 3 ∷ [])
+    ∷ mends (0xFF ∷ 0xFF ∷ 0xFF ∷ 0xFF ∷ 0xFF ∷ []) 0 0 (all_cut 0xFF) (8 ∷ 9 ∷ 10 ∷ 11 ∷ 12 ∷ 13 ∷ 14 ∷ 15 ∷ [])
+    ∷ mends (five_leaves 0x04) 0 0 (five_leaves 0x04) (8 ∷ 9 ∷ 5 ∷ 6 ∷ 7 ∷ [])
+    ∷ mends (0 ∷ 0 ∷ 0 ∷ 0x02 ∷ 0xFF ∷ []) 0 3 (five_leaves 0x57) (8 ∷ 9 ∷ 5 ∷ 6 ∷ 7 ∷ [])
+    ∷ mends (0x8C ∷ 0x24 ∷ 0x11 ∷ 0x13 ∷ 0x11 ∷ []) 0 2 (five_leaves 0x11) (8 ∷ 9 ∷ 5 ∷ 6 ∷ 7 ∷ [])
+    ∷ mends (four_leaves 0x02) 0 0 (four_leaves 0) (4 ∷ 5 ∷ 6 ∷ 7 ∷ [])
+    ∷ mends (0 ∷ 0 ∷ 0 ∷ 0 ∷ 0 ∷ 0 ∷ 0x03 ∷ 0 ∷ 0 ∷ 0 ∷ []) 0 6 (eight_deeper 0) (16 ∷ 17 ∷ 9 ∷ 5 ∷ 6 ∷ 14 ∷ 30 ∷ 31 ∷ [])
+    ∷ mends (0x8C ∷ 0x24 ∷ 0x11 ∷ 0x11 ∷ []) 1 0 (0x8C ∷ 0x24 ∷ 0x11 ∷ 0x11 ∷ []) []
+    ∷ []

@@ -1,4 +1,6 @@
 // The calls for C and Rust on a panel: numbers and lent bytes only, the answer's number returned. Each promises what the call behind it does.
+#![tactic(auto)]
+
 ghost use Rattle.panel.specs.Calls.{Open, Judged, Count, LeafAt, Ancestor, NumberOf, PinOf, Split, Merge, Pin, Unpin, Mend};
 ghost use Rattle.rounds.specs.Rounds.{Round};
 ghost use Rattle.jolpibhar.specs.Parts.{LeafBytes};

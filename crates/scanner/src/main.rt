@@ -1,5 +1,7 @@
 // The scanner: reads request records from standard input, in parts, and works through each from what the part before left. Then it prints a line
 // for each answer and, if a panel is open, a line for each of its leaves.
+#![tactic(auto)]
+
 ghost use Rattle.std.specs.Prelude.{◌≡◌, ◌≤◌, length, take};
 ghost use Rattle.io.specs.Counts.{IsPrefixLen};
 ghost use Rattle.records.specs.Records.{most_records};
