@@ -30,7 +30,7 @@ pub loop-count-preserved : goal.loop-count-preserved
 loop-count-preserved c =
     let h = c.loop-count.invariant in
     let q = full_part c.run-ran.ensures c.if-got-lt-PART.false in
-    let e = c.read_full-got.auto.1.0 ∙ h.1 in (
+    let e = c.read_full-got.auto.buf ∙ h.1 in (
       reading_more h.0 (omega (arith, c.if-got-lt-PART.false, c.read_full-got.ensures, e)) q,
       e,
       c.run-ran.auto.buffer ∙ h.2,
