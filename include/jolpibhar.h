@@ -13,8 +13,7 @@
  *
  * Threads: calls share nothing, there is no global state. Calls on different panels may run at the same time; what
  * a call writes, panel or answers, is lent to that one call alone.
- * Platforms: the archive is for x86-64 Linux; on an Arm machine `.ci/archive` compiles the same modules for that one. Numbers and
- * bytes are the same on any machine.
+ * Platforms: the archive is for x86-64 Linux. Numbers and bytes are the same on any machine.
  */
 #ifndef JOLPIBHAR_H
 #define JOLPIBHAR_H

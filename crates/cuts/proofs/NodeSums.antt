@@ -1,7 +1,7 @@
 -- A node's sum counts the leaf bits set below it: at least 2 where the node is cut, 1 where it is a leaf.
 use mathlib.Core.Path.{◌≡◌, ap, subst}
 use mathlib.Core.Logic.{◌↔◌}
-use Prim.Native.Nat.{ℕ, zero, suc, ◌+◌, ◌-◌, ◌*◌, ◌/◌, ◌^◌, ◌≤◌}
+use Prim.Native.Nat.{ℕ, zero, suc, ◌+◌, ◌*◌, ◌/◌, ◌^◌, ◌≤◌}
 use native.Mathlib.Decide.{ℕ_discrete}
 use native.Mathlib.Omega.{arith}
 use lib.Pow.{pow_pos}

@@ -4,7 +4,6 @@ use native.Mathlib.Omega.{arith}
 use Rattle.tables.proofs.Tables.{says_yes, says_no}
 use Rattle.leafwords.proofs.Crossing.{across, levels}
 use Rattle.leafwords.proofs.LeafWords.{none_follow, parents_up, up_parents, inner_up, up_inner, top_up, up_top, outer_whole, half_across, below_follow, ups, all_both, top_both, outer_at}
-use borrow.Author.Rules.{rules}
 use Rattle.blocks.proofs.below_follow.Goals as goal
 
 pub returns-then-b-lt2 : goal.returns-then-b-lt2

@@ -6,12 +6,10 @@ use lib.ListN.{length}
 use lib.Pow.{pow_mono}
 use Rattle.tables.specs.inner.Says.{Says}
 use Rattle.nodes.proofs.Depths.{at_from, depth_is, pow_next}
-use Rattle.tables.proofs.Tables.{says_no}
 use Rattle.words.specs.Words.{leaf_bit}
 use Rattle.words.proofs.Rooms.{blocks_of, Blocks, blocks, whole_words}
 use Rattle.cuts.specs.Cuts.{Cut}
 use Rattle.leafwords.specs.inner.LeafWord.{BelowFollow}
-use borrow.Author.Rules.{rules}
 use Rattle.blocks.proofs.block_follows.Lts
 use Rattle.blocks.proofs.block_follows.Reads
 use Rattle.blocks.proofs.block_follows.Tie

@@ -1,12 +1,8 @@
 use Prim.Native.Nat.{ℕ, ◌-◌, ◌<◌}
-use native.Mathlib.Omega.{arith}
 use lib.ListN.{length}
-use borrow.Author.Count.{below_more}
-use Rattle.tables.proofs.Tables.{says_yes, says_no}
 use Rattle.words.specs.Words.{leaf_bit}
-use Rattle.words.proofs.Rooms.{Blocks, blocks}
+use Rattle.words.proofs.Rooms.{Blocks}
 use Rattle.leafwords.specs.inner.LeafWord.{BlockFollows}
-use Rattle.leafwords.proofs.LeafWords.{blocks_all, all_blocks}
 use Rattle.blocks.proofs.blocks_follow.Given as goal
 
 abbrev pub invariant-loop-j : goal.invariant-loop-j

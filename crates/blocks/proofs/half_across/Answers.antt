@@ -11,7 +11,6 @@ use Rattle.tables.proofs.Tables.{says_yes}
 use Rattle.words.specs.Words.{leaf_bit}
 use Rattle.cuts.specs.Cuts.{Cut}
 use Rattle.leafwords.proofs.LeafWords.{Outer, outer_half, edge_two, border_across, mirrored_across, across_mirrored}
-use borrow.Author.Rules.{rules}
 use Rattle.blocks.proofs.half_across.Lts
 use Rattle.blocks.proofs.half_across.Reads
 use Rattle.blocks.proofs.half_across.Tie

@@ -3,11 +3,9 @@ use mathlib.Core.Path.{◌≡◌, subst}
 use Prim.Native.Nat.{◌+◌, ◌*◌, ◌/◌}
 use native.Mathlib.Omega.{arith}
 use Rattle.nodes.proofs.Depths.{below_depth, depth_left, depth_right}
-use Rattle.tables.proofs.Tables.{says_no}
 use Rattle.words.specs.Words.{leaf_bit}
 use Rattle.cuts.specs.Cuts.{Cut}
 use Rattle.leafwords.specs.inner.LeafWord.{CutWord}
-use borrow.Author.Rules.{rules}
 use Rattle.blocks.proofs.sides_follow.Goals as goal
 
 pub overflow_mul-q : goal.overflow_mul-q

@@ -11,7 +11,6 @@ use Rattle.words.specs.Words.{leaf_bit}
 use Rattle.cuts.specs.Cuts.{Cut}
 use Rattle.leafwords.specs.inner.LeafWord.{CutWord}
 use Rattle.leafwords.proofs.LeafWords.{outer_whole, border_across, mirrored_across, across_mirrored}
-use borrow.Author.Rules.{rules}
 use Rattle.blocks.proofs.whole_across.Lts
 use Rattle.blocks.proofs.whole_across.Reads
 use Rattle.blocks.proofs.whole_across.Tie

@@ -8,7 +8,6 @@ use Rattle.words.specs.Words.{leaf_bit}
 use Rattle.cuts.specs.Cuts.{Cut}
 use Rattle.leafwords.specs.inner.LeafWord.{CutWord}
 use Rattle.leafwords.proofs.LeafWords.{Below, below, cut_word}
-use borrow.Author.Rules.{rules}
 use Rattle.blocks.proofs.word_below.Lts
 use Rattle.blocks.proofs.word_below.Reads
 use Rattle.blocks.proofs.word_below.Tie

@@ -1,13 +1,9 @@
 -- The edge neighbour is none, or its bit says whether it is cut.
-use mathlib.Core.Path.{sym, ap, ◌∙◌, subst}
+use mathlib.Core.Path.{ap, ◌∙◌}
 use native.Mathlib.Omega.{arith}
 use Rattle.nodes.specs.Depth.{depth_of}
-use Rattle.tables.specs.inner.Says.{Says}
 use Rattle.nodes.proofs.Depths.{below_depth}
 use Rattle.nodes.proofs.Edges.{edge_depth}
-use Rattle.tables.proofs.Tables.{says_yes}
-use Rattle.words.specs.Words.{leaf_bit}
-use Rattle.cuts.specs.Cuts.{Cut}
 use Rattle.cuts.proofs.across_cut.Goals as goal
 
 pub edge_of-e-requires : goal.edge_of-e-requires

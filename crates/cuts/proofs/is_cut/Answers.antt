@@ -1,6 +1,5 @@
 -- At depth D no node is cut; above it the bit that names n says it.
 use native.Mathlib.Omega.{arith}
-use borrow.Author.Rules.{rules}
 use Rattle.nodes.proofs.Depths.{depth_le}
 use Rattle.tables.proofs.Tables.{says_no}
 use Rattle.cuts.proofs.Places.{cut_depth}

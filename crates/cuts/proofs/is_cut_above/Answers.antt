@@ -1,6 +1,5 @@
 -- The leaf bit that names n says whether n is cut.
 use native.Mathlib.Omega.{arith}
-use borrow.Author.Rules.{rules}
 use Rattle.cuts.proofs.Naming.{says_cut}
 use Rattle.cuts.proofs.is_cut_above.Goals as goal
 

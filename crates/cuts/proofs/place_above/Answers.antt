@@ -2,7 +2,6 @@
 use mathlib.Core.Path.{ap₂, subst⁻¹}
 use Prim.Native.Nat.{◌-◌}
 use native.Mathlib.Omega.{arith}
-use borrow.Author.Rules.{rules}
 use Rattle.cuts.specs.inner.Steps.{CutPlace}
 use Rattle.cuts.proofs.Naming.{Placed, placed}
 use Rattle.cuts.proofs.place_above.Goals as goal

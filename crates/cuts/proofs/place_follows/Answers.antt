@@ -1,14 +1,7 @@
 -- Place 0 names no node, a place whose bit is not set no cut; of any other the test of the node that it names says it.
-use mathlib.Core.Path.{refl, sym, ap, ◌∙◌, subst}
+use mathlib.Core.Path.{ap}
 use native.Mathlib.Omega.{arith}
-use lib.Pow.{pow_mono}
-use borrow.Author.Rules.{rules}
 use Rattle.nodes.specs.Depth.{depth_of}
-use Rattle.tables.specs.inner.Says.{Says}
-use Rattle.tables.proofs.Tables.{says_yes}
-use Rattle.words.specs.Words.{leaf_bit}
-use Rattle.cuts.specs.Cuts.{Cut}
-use Rattle.cuts.specs.inner.Steps.{Follows}
 use Rattle.cuts.proofs.Naming.{Found, found}
 use Rattle.cuts.proofs.place_follows.Lts
 use Rattle.cuts.proofs.place_follows.Reads

@@ -1,6 +1,5 @@
 -- The two tests are the two parts.
 use Rattle.tables.proofs.Tables.{says_no}
-use borrow.Author.Rules.{rules}
 use Rattle.leafwords.proofs.beside.Goals as goal
 
 pub returns-then-under : goal.returns-then-under

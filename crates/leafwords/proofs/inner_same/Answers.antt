@@ -1,7 +1,6 @@
 -- The five tests are the five parts.
 use native.Mathlib.Omega.{arith}
 use borrow.Author.Count.{below_none, below_more}
-use Rattle.tables.proofs.Tables.{says_no}
 use Rattle.leafwords.proofs.Masks.{ones_8, ones_16, ones_32}
 use Rattle.leafwords.proofs.inner_same.Goals as goal
 

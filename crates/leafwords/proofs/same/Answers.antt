@@ -1,7 +1,6 @@
 -- The bits of the words, masked, are compared word by word.
 use Rattle.tables.proofs.Tables.{says_equal}
 use Rattle.leafwords.proofs.Masks.{same_is, is_same}
-use borrow.Author.Rules.{rules}
 use Rattle.leafwords.proofs.same.Goals as goal
 
 pub returns : goal.returns

@@ -1,6 +1,5 @@
 -- The three tests are the three parts.
 use native.Mathlib.Omega.{arith}
-use Rattle.tables.proofs.Tables.{says_no}
 use Rattle.leafwords.proofs.Masks.{ones_64}
 use Rattle.leafwords.proofs.top_same.Goals as goal
 

@@ -1,7 +1,6 @@
 -- The bits of the words, masked, are compared word by word.
 use Rattle.tables.proofs.Tables.{says_equal}
 use Rattle.leafwords.proofs.Masks.{under_is, is_under}
-use borrow.Author.Rules.{rules}
 use Rattle.leafwords.proofs.under.Goals as goal
 
 pub returns : goal.returns

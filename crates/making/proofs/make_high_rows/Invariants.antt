@@ -1,10 +1,5 @@
-use mathlib.Core.Path.{◌≡◌, refl, ap, subst}
-use Prim.Native.Nat.{ℕ, ◌+◌, ◌-◌, ◌^◌, ◌≤◌}
-use native.Mathlib.Omega.{arith}
-use lib.Pow.{pow_mono, pow_pos}
+use Prim.Native.Nat.{◌^◌, ◌≤◌}
 use Rattle.sums.specs.inner.Rows.{Made}
-use Rattle.words.proofs.Rooms.{room_same}
-use Rattle.sums.proofs.Steps.{made_none, made_join}
 use Rattle.making.proofs.make_high_rows.Given as goal
 
 abbrev pub invariant-loop-d : goal.invariant-loop-d

@@ -2,9 +2,8 @@
 use mathlib.Core.Path.{subst}
 use Prim.Native.Nat.{ℕ, ◌*◌, ◌-◌}
 use native.Mathlib.Omega.{arith}
-use lib.ListN.{length}
 use Rattle.sums.specs.inner.Rows.{SevenAt}
-use Rattle.words.proofs.Rooms.{Quarter, quarter}
+use Rattle.words.proofs.Rooms.{quarter}
 use Rattle.sums.proofs.Steps.{Blockwise, blocks_none}
 use Rattle.sums.proofs.LowThree.{seven_next, seven_all}
 use Rattle.making.proofs.make_lowest_three.Goals as goal

@@ -1,11 +1,8 @@
-use mathlib.Core.Path.{subst}
-use Prim.Native.Nat.{ℕ, ◌*◌, ◌-◌}
-use native.Mathlib.Omega.{arith}
+use Prim.Native.Nat.{◌*◌, ◌-◌}
 use lib.ListN.{length}
 use Rattle.sums.specs.inner.Rows.{SevenAt}
-use Rattle.words.proofs.Rooms.{Quarter, quarter}
-use Rattle.sums.proofs.Steps.{Blockwise, blocks_none}
-use Rattle.sums.proofs.LowThree.{seven_next, seven_all}
+use Rattle.words.proofs.Rooms.{Quarter}
+use Rattle.sums.proofs.Steps.{Blockwise}
 use Rattle.making.proofs.make_lowest_three.Given as goal
 
 abbrev pub invariant-loop-i : goal.invariant-loop-i

@@ -7,7 +7,7 @@ use Rattle.nodes.proofs.Depths.{pow_next}
 use Rattle.words.specs.inner.Working.{put_word}
 use Rattle.sums.specs.inner.Rows.{Made}
 use Rattle.words.proofs.Rooms.{room_same}
-use Rattle.sums.proofs.Rows.{Running, Here, running_first, running_next, here}
+use Rattle.sums.proofs.Rows.{Here, running_first, running_next, here}
 use Rattle.sums.proofs.Steps.{sum_of, made_none, made_step}
 use Rattle.making.proofs.make_row.Lts
 use Rattle.making.proofs.make_row.Reads

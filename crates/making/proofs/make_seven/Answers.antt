@@ -6,7 +6,6 @@ use Rattle.bits.proofs.Laws.{field_lt}
 use Rattle.bits.proofs.Puts.{puts_are}
 use Rattle.sums.specs.inner.Rows.{SevenMade}
 use Rattle.sums.proofs.LowThree.{seven_puts, seven_made}
-use borrow.Author.Rules.{rules}
 use Rattle.making.proofs.make_seven.Goals as goal
 
 pub seven-s-requires : goal.seven-s-requires

@@ -8,7 +8,6 @@ use Rattle.sums.specs.inner.Summed.{Summed}
 use Rattle.sums.specs.inner.Rows.{Made}
 use Rattle.words.proofs.Rooms.{room_same}
 use Rattle.sums.proofs.Steps.{made_join, made_all}
-use borrow.Author.Rules.{rules}
 use Rattle.making.proofs.make_sums.Goals as goal
 
 -- the rows from row e on, and then those before it

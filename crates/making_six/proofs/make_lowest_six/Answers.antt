@@ -2,9 +2,8 @@
 use mathlib.Core.Path.{subst}
 use Prim.Native.Nat.{ℕ, ◌*◌, ◌-◌}
 use native.Mathlib.Omega.{arith}
-use lib.ListN.{length}
 use Rattle.sums.specs.inner.Rows.{SixAt}
-use Rattle.words.proofs.Rooms.{Blocks, blocks}
+use Rattle.words.proofs.Rooms.{blocks}
 use Rattle.sums.proofs.Steps.{Blockwise, blocks_none}
 use Rattle.sums.proofs.LowSix.{six_next, six_all}
 use Rattle.making_six.proofs.make_lowest_six.Goals as goal

@@ -1,11 +1,8 @@
-use mathlib.Core.Path.{subst}
-use Prim.Native.Nat.{ℕ, ◌*◌, ◌-◌}
-use native.Mathlib.Omega.{arith}
+use Prim.Native.Nat.{◌*◌, ◌-◌}
 use lib.ListN.{length}
 use Rattle.sums.specs.inner.Rows.{SixAt}
-use Rattle.words.proofs.Rooms.{Blocks, blocks}
-use Rattle.sums.proofs.Steps.{Blockwise, blocks_none}
-use Rattle.sums.proofs.LowSix.{six_next, six_all}
+use Rattle.words.proofs.Rooms.{Blocks}
+use Rattle.sums.proofs.Steps.{Blockwise}
 use Rattle.making_six.proofs.make_lowest_six.Given as goal
 
 abbrev pub invariant-loop-j : goal.invariant-loop-j

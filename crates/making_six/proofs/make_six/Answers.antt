@@ -1,10 +1,8 @@
 -- Six puts apart from one another and from the leaf bits, and what each puts is a row of sums over 64 leaf bits.
 use mathlib.Core.Path.{refl, subst⁻¹}
-use native.Mathlib.Omega.{arith}
 use Rattle.bits.proofs.Puts.{puts_are}
 use Rattle.sums.specs.inner.Rows.{SixMade}
 use Rattle.sums.proofs.LowSix.{six_puts, six_made}
-use borrow.Author.Rules.{rules}
 use Rattle.making_six.proofs.make_six.Lts
 use Rattle.making_six.proofs.make_six.Reads
 use Rattle.making_six.proofs.make_six.Tie

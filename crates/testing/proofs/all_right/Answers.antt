@@ -1,7 +1,6 @@
 -- The first field is 4 * deep exactly where both spare bits are zero and word 0 holds deep.
 use mathlib.Core.Path.{sym, ◌∙◌}
 use native.Mathlib.Omega.{arith}
-use borrow.Author.Rules.{rules}
 use Rattle.tables.proofs.Tables.{says_no}
 use Rattle.words.proofs.Heads.{head_inside, head_right, right_head}
 use Rattle.words.proofs.Rooms.{room_bytes}

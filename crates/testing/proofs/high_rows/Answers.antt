@@ -1,9 +1,8 @@
 -- The rows before row d are right, and row d ends where the next begins.
-use Prim.Native.Nat.{◌+◌, ◌-◌, ◌^◌, ◌≤◌}
+use Prim.Native.Nat.{◌+◌, ◌^◌}
 use native.Mathlib.Omega.{arith}
 use lib.Pow.{pow_mono, pow_pos}
 use Rattle.tables.proofs.Tables.{says_yes, says_no}
-use Rattle.sums.specs.inner.Rows.{SumsBetween}
 use Rattle.sums.proofs.Rows.{sums_join}
 use Rattle.testing.proofs.high_rows.Goals as goal
 

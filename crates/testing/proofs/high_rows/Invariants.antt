@@ -1,9 +1,5 @@
-use Prim.Native.Nat.{◌+◌, ◌-◌, ◌^◌, ◌≤◌}
-use native.Mathlib.Omega.{arith}
-use lib.Pow.{pow_mono, pow_pos}
-use Rattle.tables.proofs.Tables.{says_yes, says_no}
+use Prim.Native.Nat.{◌-◌, ◌^◌, ◌≤◌}
 use Rattle.sums.specs.inner.Rows.{SumsBetween}
-use Rattle.sums.proofs.Rows.{sums_join}
 use Rattle.testing.proofs.high_rows.Given as goal
 
 abbrev pub invariant-loop-d : goal.invariant-loop-d

@@ -1,12 +1,11 @@
 -- The rows are right where they are over each eight leaf bits.
 use mathlib.Core.Path.{subst, subst⁻¹}
-use Prim.Native.Nat.{ℕ, ◌-◌, ◌<◌}
+use Prim.Native.Nat.{ℕ, ◌-◌}
 use native.Mathlib.Omega.{arith}
-use lib.ListN.{length}
 use borrow.Author.Count.{below_none, below_more}
 use Rattle.tables.proofs.Tables.{says_yes, says_no}
 use Rattle.sums.specs.inner.Rows.{SevenAt}
-use Rattle.words.proofs.Rooms.{Quarter, quarter}
+use Rattle.words.proofs.Rooms.{quarter}
 use Rattle.sums.proofs.LowThree.{sevens_sums, sums_seven}
 use Rattle.testing.proofs.lowest_three.Goals as goal
 

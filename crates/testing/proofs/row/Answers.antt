@@ -6,8 +6,7 @@ use lib.Pow.{pow_mono}
 use Rattle.nodes.proofs.Depths.{pow_next}
 use Rattle.tables.proofs.Tables.{says_yes, says_no}
 use Rattle.words.specs.Words.{word}
-use Rattle.sums.specs.inner.Rows.{SumsBetween}
-use Rattle.sums.proofs.Rows.{Running, Here, running_first, running_next, here, sums_next}
+use Rattle.sums.proofs.Rows.{Here, running_first, running_next, here, sums_next}
 use Rattle.testing.proofs.row.Lts
 use Rattle.testing.proofs.row.Reads
 use Rattle.testing.proofs.row.Tie

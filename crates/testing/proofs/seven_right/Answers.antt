@@ -2,7 +2,6 @@
 use mathlib.Core.Path.{sym}
 use Prim.Native.Nat.{◌+◌, ◌*◌, ◌<◌}
 use native.Mathlib.Omega.{arith}
-use borrow.Author.Rules.{rules}
 use Rattle.bits.proofs.Laws.{field_lt}
 use Rattle.tables.proofs.Tables.{says_equal}
 use Rattle.sums.proofs.LowThree.{same_seven, sevens_are, are_sevens}

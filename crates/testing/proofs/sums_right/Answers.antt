@@ -4,7 +4,6 @@ use mathlib.Core.List.{List}
 use Prim.Native.Nat.{ℕ, ◌-◌, ◌^◌, ◌≤◌}
 use native.Mathlib.Omega.{arith}
 use lib.Pow.{pow_mono, pow_pos}
-use borrow.Author.Rules.{rules}
 use Rattle.tables.specs.inner.Says.{Says}
 use Rattle.tables.proofs.Tables.{says_no}
 use Rattle.sums.specs.Sums.{SumsRight}

@@ -1,12 +1,11 @@
 -- The rows are right where they are over each 64 leaf bits.
 use mathlib.Core.Path.{subst, subst⁻¹}
-use Prim.Native.Nat.{ℕ, ◌-◌, ◌<◌}
+use Prim.Native.Nat.{ℕ, ◌-◌}
 use native.Mathlib.Omega.{arith}
-use lib.ListN.{length}
 use borrow.Author.Count.{below_none, below_more}
 use Rattle.tables.proofs.Tables.{says_yes, says_no}
 use Rattle.sums.specs.inner.Rows.{SixAt}
-use Rattle.words.proofs.Rooms.{Blocks, blocks}
+use Rattle.words.proofs.Rooms.{blocks}
 use Rattle.sums.proofs.LowSix.{six_sums, sums_six}
 use Rattle.testing_six.proofs.lowest_six.Goals as goal
 

@@ -2,7 +2,6 @@
 use mathlib.Core.Path.{◌≡◌, sym, ap, ◌∙◌}
 use Prim.Native.Nat.{ℕ, ◌+◌, ◌*◌, ◌%◌, ◌^◌}
 use native.Mathlib.Omega.{arith}
-use borrow.Author.Rules.{rules}
 use Rattle.tables.proofs.Tables.{says_no, says_equal}
 use Rattle.sums.specs.inner.Rows.{SixAt}
 use Rattle.sums.proofs.Pairs.{field-mod}

@@ -1,9 +1,6 @@
 -- Each turn clears eight pins more, and leaves those that are cleared.
 use mathlib.Core.Path.{refl}
-use Prim.Native.Nat.{◌-◌, ◌*◌, ◌≤◌}
 use native.Mathlib.Omega.{arith}
-use borrow.Author.Rules.{rules}
-use Rattle.pins.specs.inner.Steps.{PinsInBytes, ClearedBetween}
 use Rattle.pins.proofs.PinBytes.{in_bytes, cleared_join, cleared_all}
 use Rattle.pins.proofs.keeping.keep_on_leaves.Goals as goal
 

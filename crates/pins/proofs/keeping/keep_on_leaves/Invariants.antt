@@ -1,9 +1,5 @@
-use mathlib.Core.Path.{refl}
 use Prim.Native.Nat.{◌-◌, ◌*◌, ◌≤◌}
-use native.Mathlib.Omega.{arith}
-use borrow.Author.Rules.{rules}
 use Rattle.pins.specs.inner.Steps.{PinsInBytes, ClearedBetween}
-use Rattle.pins.proofs.PinBytes.{in_bytes, cleared_join, cleared_all}
 use Rattle.pins.proofs.keeping.keep_on_leaves.Given as goal
 
 abbrev pub invariant-loop-j : goal.invariant-loop-j

@@ -1,7 +1,6 @@
 -- The pins start at bit 4 * 2 ^ D, which the code reaches by a shift that loses nothing.
 use mathlib.Core.Path.{ap, ◌∙◌}
 use native.Mathlib.Omega.{arith}
-use borrow.Author.Rules.{rules}
 use Rattle.bits.specs.Bits.{bit}
 use Rattle.words.proofs.Rooms.{bounds}
 use Rattle.pins.specs.Pins.{pin_bit}

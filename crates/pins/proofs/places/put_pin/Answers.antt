@@ -2,7 +2,6 @@
 use mathlib.Core.Path.{ap, ◌∙◌}
 use Prim.Native.Nat.{ℕ}
 use native.Mathlib.Omega.{arith}
-use borrow.Author.Rules.{rules}
 use Rattle.bits.specs.inner.Puts.{put_bit}
 use Rattle.words.proofs.Rooms.{bounds}
 use Rattle.pins.specs.inner.Steps.{put_pin}

@@ -1,5 +1,4 @@
 -- The pin byte and the leaf byte beside it hold the same eight places.
-use Rattle.pins.specs.inner.Steps.{PinsInBytes}
 use Rattle.pins.proofs.PinBytes.{depth_bytes, says_byte}
 use Rattle.pins.proofs.testing.byte_on_leaves.Goals as goal
 use Rattle.std.proofs.Common.{arith}

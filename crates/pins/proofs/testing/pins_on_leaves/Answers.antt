@@ -1,14 +1,11 @@
 -- The loop's invariant: `on` says whether the pins of each byte passed lie on leaf bits.
 use mathlib.Core.Path.{◌≡◌, subst⁻¹}
 use mathlib.Core.Bool.{Bool}
-use mathlib.Core.Logic.{⊎_elim}
-use Prim.Native.Nat.{ℕ, ◌+◌, ◌-◌, ◌*◌, ◌%◌, ◌^◌, ◌≤◌, ◌<◌}
+use Prim.Native.Nat.{ℕ, ◌+◌, ◌-◌, ◌*◌, ◌%◌, ◌^◌, ◌<◌}
 use native.Mathlib.Omega.{arith}
 use borrow.Author.Count.{below_more}
-use borrow.Author.Tests.{not-true, not-false}
 use Rattle.tables.specs.inner.Says.{Says}
 use Rattle.tables.proofs.Tables.{says_yes, says_no}
-use Rattle.pins.specs.inner.Steps.{PinsInBytes, ByteOnLeaves}
 use Rattle.words.proofs.Rooms.{quarter}
 use Rattle.pins.proofs.PinBytes.{depth_bytes, bytes_all, all_bytes}
 use Rattle.pins.proofs.testing.pins_on_leaves.Goals as goal

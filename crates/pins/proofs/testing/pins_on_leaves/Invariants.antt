@@ -1,14 +1,7 @@
 use mathlib.Core.Path.{◌≡◌}
-use mathlib.Core.Bool.{Bool}
-use mathlib.Core.Logic.{⊎_elim}
-use Prim.Native.Nat.{ℕ, ◌+◌, ◌-◌, ◌^◌, ◌≤◌, ◌<◌}
-use native.Mathlib.Omega.{arith}
-use borrow.Author.Count.{below_more}
-use borrow.Author.Tests.{not-true, not-false}
+use Prim.Native.Nat.{ℕ, ◌-◌, ◌^◌, ◌≤◌, ◌<◌}
 use Rattle.tables.specs.inner.Says.{Says}
-use Rattle.tables.proofs.Tables.{says_yes, says_no}
 use Rattle.pins.specs.inner.Steps.{PinRoom, ByteOnLeaves}
-use Rattle.pins.proofs.PinBytes.{in_bytes, bytes_all, all_bytes}
 use Rattle.pins.proofs.testing.pins_on_leaves.Given as goal
 
 abbrev pub invariant-loop-j : goal.invariant-loop-j
