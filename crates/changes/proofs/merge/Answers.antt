@@ -4,14 +4,11 @@ use mathlib.Core.Logic.{inl, inr}
 use mathlib.Core.List.{List, [], ◌∷◌, ◌++◌}
 use Prim.Native.Nat.{ℕ, ◌<◌}
 use native.Mathlib.Omega.{arith}
-use borrow.Author.Rules.{rules}
-use borrow.Author.Tests.{not-true, not-false}
 use Rattle.nodes.specs.Depth.{depth_of}
 use Rattle.tables.specs.Table.{unless, Answers}
 use Rattle.tables.proofs.Tables.{is_done, is_refused}
 use Rattle.panel.specs.Panels.{Good, LeafOf}
 use Rattle.panel.specs.Calls.{leaf_rows, Together, Unpinned, merge_rows}
-use Rattle.panel.proofs.GoodPanels.{leaf_in_range}
 use Rattle.panel.proofs.LeafRows.{is_leaf}
 use Rattle.panel.proofs.Judgements.{no_ancestor, tested_no, tested_ancestor, tested_leaf}
 use Rattle.changes.proofs.merge.Goals as goal

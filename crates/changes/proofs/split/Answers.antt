@@ -1,14 +1,7 @@
 -- The test of leaf k is the first rows of the table, the depth its last, and the work is done only behind them.
 use mathlib.Core.Path.{refl}
-use mathlib.Core.Logic.{inl, inr}
-use mathlib.Core.List.{[], ◌∷◌}
 use native.Mathlib.Omega.{arith}
-use borrow.Author.Rules.{rules}
-use Rattle.tables.specs.Table.{unless}
-use Rattle.tables.proofs.Tables.{is_done, is_refused}
-use Rattle.panel.specs.Panels.{LeafOf}
-use Rattle.panel.proofs.LeafRows.{is_leaf}
-use Rattle.panel.proofs.Judgements.{no_ancestor, tested_no, tested_ancestor, tested_leaf}
+use Rattle.panel.proofs.Judgements.{tested_no, tested_ancestor, tested_leaf}
 use Rattle.changes.proofs.split.Goals as goal
 
 pub returns-in-No : goal.returns-in-No

@@ -1,12 +1,10 @@
 -- The tests are the leaves that the merge needs, each a node of the panel; at the border there is no pair across.
 use mathlib.Core.Path.{◌≡◌, subst}
 use native.Mathlib.Omega.{arith}
-use borrow.Author.Rules.{rules}
-use Rattle.tables.proofs.Tables.{says_yes, says_no}
 use Rattle.cuts.specs.Cuts.{sibling}
 use Rattle.panel.specs.Panels.{InRange, LeafOf}
 use Rattle.panel.proofs.GoodPanels.{leaf_in_range}
-use Rattle.cutting.proofs.ToMerge.{parent_low, range_small, sibling_in, across_in, together_border, says_together, left_missing}
+use Rattle.cutting.proofs.ToMerge.{parent_low, range_small, across_in}
 use Prim.Native.Nat.{◌+◌, ◌*◌}
 use Rattle.changes.proofs.together.Lts
 use Rattle.changes.proofs.together.Reads

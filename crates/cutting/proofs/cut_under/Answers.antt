@@ -2,14 +2,13 @@
 use mathlib.Core.Path.{◌≡◌, sym, ap, ◌∙◌}
 use mathlib.Core.Logic.{◌≢◌}
 use native.Mathlib.Omega.{arith}
-use borrow.Author.Rules.{rules}
 use Rattle.words.specs.Words.{leaf_bit}
 use Rattle.sums.proofs.Counts.{leaf_bits}
 use Rattle.cuts.specs.Cuts.{place_of}
 use Rattle.cuts.proofs.Places.{cut_set}
 use Rattle.pins.specs.Pins.{pin_bit}
 use Rattle.pins.specs.inner.Steps.{put_pin}
-use Rattle.pins.proofs.PinBits.{pin_lt, pin_room_same, put_pin_none, pin_put_leaf, summed_pin}
+use Rattle.pins.proofs.PinBits.{pin_lt, put_pin_none, pin_put_leaf, summed_pin}
 use Rattle.cutting.specs.inner.Changing.{CutPut}
 use Rattle.cutting.proofs.cut_under.Lts
 use Rattle.cutting.proofs.cut_under.Reads

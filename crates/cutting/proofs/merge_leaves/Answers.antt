@@ -2,7 +2,6 @@
 use mathlib.Core.Path.{sym, ap, ◌∙◌, subst}
 use Prim.Native.Nat.{◌/◌, ◌<◌}
 use native.Mathlib.Omega.{arith}
-use borrow.Author.Rules.{rules}
 use Rattle.nodes.specs.Depth.{depth_of}
 use Rattle.nodes.proofs.Depths.{below_depth}
 use Rattle.nodes.proofs.Edges.{edge_depth}

@@ -13,7 +13,6 @@ use Rattle.panel.specs.Calls.{SplitAt}
 use Rattle.cutting.specs.inner.Changing.{Cuttable, CutUnder}
 use Rattle.cutting.proofs.AtWork.{AtWork, CutIn, work_under, under_add, room_at, cuttable_at, under_at, cut_at}
 use Rattle.cutting.proofs.Splitting.{Splitting, splitting_start, splitting_node, splitting_low, splitting_cut, splitting_last, pins_1, across_uncut, held_own, held_above, held_node, splitting_step, still_uncut, across_low, across_above}
-use borrow.Author.Rules.{rules}
 use Rattle.cutting.proofs.split_leaf.Lts
 use Rattle.cutting.proofs.split_leaf.Reads
 use Rattle.cutting.proofs.split_leaf.Tie

@@ -8,7 +8,6 @@ use Rattle.panel.specs.Panels.{deep_of}
 use Rattle.panel.proofs.Lengths.{fits_small, good_room}
 use Rattle.descents.specs.inner.Descents.{Passed}
 use Rattle.descents.proofs.Downward.{inside, back, passed_bit, named_next}
-use borrow.Author.Rules.{rules}
 use Rattle.descents.proofs.+cuts_toward.Goals as goal
 
 pub get_bit-requires : goal.get_bit-requires

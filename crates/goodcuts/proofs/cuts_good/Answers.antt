@@ -1,7 +1,6 @@
 -- Cuts are good where node 1 is cut and all places follow.
 use native.Mathlib.Omega.{arith}
 use lib.Pow.{pow_pos}
-use borrow.Author.Rules.{rules}
 use Rattle.nodes.proofs.Depths.{pow_next}
 use Rattle.tables.proofs.Tables.{says_no}
 use Rattle.cuts.proofs.Following.{follows_good}

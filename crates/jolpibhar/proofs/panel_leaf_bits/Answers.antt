@@ -1,7 +1,5 @@
 -- The part that `leaf_bits` gives is told by its length, which is a third of its place.
-use native.Mathlib.Omega.{arith}
-use Rattle.jolpibhar.proofs.LeafParts.{part_short, part_told}
-use borrow.Author.Rules.{rules}
+use Rattle.jolpibhar.proofs.LeafParts.{part_told}
 use Rattle.jolpibhar.proofs.panel_leaf_bits.Goals as goal
 
 pub returns : goal.returns

@@ -1,6 +1,4 @@
 -- Word 1 is the leaf count.
-use mathlib.Core.Path.{ap, ◌∙◌}
-use Rattle.words.specs.Words.{word}
 use Rattle.descents.proofs.Downward.{root_room}
 use Rattle.leaves.proofs.count.Goals as goal
 

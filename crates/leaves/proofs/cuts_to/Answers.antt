@@ -1,10 +1,8 @@
 -- The shift finds the first node of depth D below k. The way to it starts at node 1, and ends with k or, at depth D, right above it.
 use mathlib.Core.Path.{◌≡◌, refl}
-use mathlib.Core.Logic.{◌⊎◌, inl, inr, ⊎_elim}
+use mathlib.Core.Logic.{◌⊎◌, inl, inr}
 use Prim.Native.Nat.{◌+◌, ◌-◌, ◌≤◌}
 use native.Mathlib.Omega.{arith}
-use lib.Pow.{pow_mono}
-use Rattle.panel.proofs.Lengths.{fits_small}
 use Rattle.leaves.proofs.FirstWays.{shallow, start_cuts, start-named, end_cuts}
 use borrow.Author.Rules.{rules}
 use Rattle.leaves.proofs.cuts_to.Goals as goal

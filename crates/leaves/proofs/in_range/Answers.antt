@@ -4,9 +4,7 @@ use Prim.Native.Nat.{◌+◌, ◌*◌, ◌%◌, ◌^◌}
 use native.Mathlib.Omega.{arith}
 use lib.Pow.{pow_mono}
 use Rattle.nodes.proofs.Depths.{pow_next}
-use Rattle.tables.proofs.Tables.{says_no}
 use borrow.Author.Tests.{ltb-true, ltb-false}
-use borrow.Author.Rules.{rules}
 use Rattle.leaves.proofs.in_range.Goals as goal
 
 pub returns : goal.returns

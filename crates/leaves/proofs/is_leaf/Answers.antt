@@ -2,7 +2,6 @@
 use mathlib.Core.Path.{sym, ◌∙◌}
 use Rattle.tables.proofs.Tables.{says_equal}
 use Rattle.leaves.proofs.FirstWays.{leaf_cuts}
-use borrow.Author.Rules.{rules}
 use Rattle.leaves.proofs.is_leaf.Goals as goal
 
 pub returns : goal.returns

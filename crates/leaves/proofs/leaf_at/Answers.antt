@@ -2,7 +2,6 @@
 use mathlib.Core.Path.{subst}
 use Prim.Native.Nat.{◌+◌}
 use native.Mathlib.Omega.{arith}
-use borrow.Author.Rules.{rules}
 use Rattle.panel.specs.Panels.{number_in}
 use Rattle.panel.specs.Calls.{LeafNumbered}
 use Rattle.panel.proofs.GoodPanels.{number_root}

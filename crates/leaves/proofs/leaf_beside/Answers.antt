@@ -1,12 +1,5 @@
 -- The sibling's parent, which is cut, is the node's own.
-use mathlib.Core.Path.{◌≡◌, subst}
-use Prim.Native.Nat.{◌/◌}
 use native.Mathlib.Omega.{arith}
-use borrow.Author.Tests.{not-true, not-false}
-use Rattle.tables.specs.inner.Says.{Says}
-use Rattle.words.specs.Words.{leaf_bit}
-use Rattle.cuts.specs.Cuts.{Cut, sibling}
-use Rattle.panel.specs.Panels.{CutOf}
 use Rattle.panel.proofs.Lengths.{good_room}
 use Rattle.leaves.proofs.leaf_beside.Goals as goal
 

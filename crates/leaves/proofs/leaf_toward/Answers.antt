@@ -1,7 +1,6 @@
 -- The shift finds the first node of depth D below k, and the descent the leaf on the way to it.
 use mathlib.Core.Path.{refl}
 use Rattle.leaves.proofs.FirstWays.{shallow, start_toward, stop_toward}
-use borrow.Author.Rules.{rules}
 use Rattle.leaves.proofs.leaf_toward.Goals as goal
 
 pub overflow_sub-levels : goal.overflow_sub-levels

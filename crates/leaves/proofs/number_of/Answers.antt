@@ -2,13 +2,11 @@
 use mathlib.Core.Path.{◌≡◌, refl, ap, ◌∙◌, subst}
 use mathlib.Core.List.{[]}
 use native.Mathlib.Omega.{arith}
-use Rattle.tables.specs.inner.Says.{Says}
 use Rattle.tables.proofs.Tables.{is_done, is_refused}
-use Rattle.panel.specs.Panels.{InRange, LeafOf, number_in}
-use Rattle.panel.proofs.LeafRows.{no_such_node, is_cut, below_leaf, is_leaf}
+use Rattle.panel.specs.Panels.{LeafOf, number_in}
+use Rattle.panel.proofs.LeafRows.{is_cut, below_leaf, is_leaf}
 use Rattle.panel.proofs.Judgements.{no_ancestor}
 use Rattle.leaves.proofs.FirstWays.{known}
-use borrow.Author.Rules.{rules}
 use Rattle.leaves.proofs.number_of.Goals as goal
 
 pub returns-then-k-leaf : goal.returns-then-k-leaf

@@ -1,17 +1,15 @@
 -- The range is row 3, and how many nodes are cut down to k decides the others.
 use mathlib.Core.Path.{refl, subst⁻¹}
 use mathlib.Core.List.{[]}
-use Prim.Native.Nat.{ℕ, ◌-◌, ◌/◌, ◌^◌, ◌<◌}
+use Prim.Native.Nat.{ℕ, ◌-◌, ◌/◌, ◌^◌}
 use native.Mathlib.Omega.{arith}
-use Rattle.tables.specs.inner.Says.{Says}
 use Rattle.nodes.proofs.Depths.{depth_le}
 use Rattle.cuts.specs.Cuts.{LeafAbove}
-use Rattle.panel.specs.Panels.{CutOf, InRange}
+use Rattle.panel.specs.Panels.{CutOf}
 use Rattle.panel.proofs.Lengths.{fits_small}
-use Rattle.panel.proofs.LeafRows.{no_such_node, is_cut, below_leaf, is_leaf}
+use Rattle.panel.proofs.LeafRows.{below_leaf, is_leaf}
 use Rattle.panel.proofs.Judgements.{no_ancestor}
 use Rattle.leaves.proofs.FirstWays.{known}
-use borrow.Author.Rules.{rules}
 use Rattle.leaves.proofs.tested.Goals as goal
 
 pub returns-then-cuts-d : goal.returns-then-cuts-d

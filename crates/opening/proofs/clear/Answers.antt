@@ -1,9 +1,8 @@
 -- The loop's invariant: the bytes passed are zero. Past the end every byte reads as zero.
 use mathlib.Core.Path.{◌≡◌, refl}
 use mathlib.Core.Logic.{⊎_elim}
-use Prim.Native.Nat.{ℕ, ◌-◌, ◌≤◌, ◌<◌}
 use native.Mathlib.Omega.{arith}
-use lib.ListN.{length, get_or, length-set, get_or-eq_default}
+use lib.ListN.{length, length-set, get_or-eq_default}
 use lib.Seq.{get_or-set_same}
 use borrow.Author.Count.{below_more}
 use Rattle.bits.proofs.Laws.{all_set, le_or_lt}

@@ -1,11 +1,6 @@
-use mathlib.Core.Path.{◌≡◌, refl}
-use mathlib.Core.Logic.{⊎_elim}
+use mathlib.Core.Path.{◌≡◌}
 use Prim.Native.Nat.{ℕ, ◌-◌, ◌≤◌, ◌<◌}
-use native.Mathlib.Omega.{arith}
-use lib.ListN.{length, get_or, length-set, get_or-eq_default}
-use lib.Seq.{get_or-set_same}
-use borrow.Author.Count.{below_more}
-use Rattle.bits.proofs.Laws.{all_set, le_or_lt}
+use lib.ListN.{length, get_or}
 use Rattle.opening.proofs.clear.Given as goal
 
 abbrev pub invariant-loop-i : goal.invariant-loop-i

@@ -1,6 +1,5 @@
 -- The tests are the two children, one by one.
 use native.Mathlib.Omega.{arith}
-use borrow.Author.Rules.{rules}
 use borrow.Author.Tests.{not-true, not-false}
 use Rattle.tables.proofs.Tables.{says_no}
 use Rattle.cutting.proofs.ToMerge.{range_small}

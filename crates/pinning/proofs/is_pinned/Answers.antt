@@ -1,10 +1,4 @@
 -- The pin is set where it is 1.
-use mathlib.Core.Path.{◌≡◌, sym, ap, ◌∙◌}
-use Prim.Native.Nat.{ℕ}
-use Rattle.tables.proofs.Tables.{says_equal}
-use Rattle.cuts.specs.Cuts.{place_of}
-use Rattle.pins.specs.Pins.{pin_bit}
-use Rattle.panel.specs.Panels.{pin_of}
 use Rattle.panel.proofs.Lengths.{good_pins}
 use Rattle.pinning.proofs.Pins.{range_place}
 use Rattle.pinning.proofs.is_pinned.Goals as goal

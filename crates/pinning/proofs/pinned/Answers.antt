@@ -5,17 +5,15 @@ use mathlib.Core.List.{List, []}
 use Prim.Native.Nat.{ℕ}
 use native.Mathlib.Decide.{ℕ_discrete}
 use native.Mathlib.Omega.{arith}
-use borrow.Author.Rules.{rules}
 use Rattle.answers.specs.Refusals.{pinning_bit}
 use Rattle.answers.specs.declared.Pinning.TheVariants as pinning
 use Rattle.tables.specs.inner.Says.{Says}
 use Rattle.tables.proofs.Tables.{is_done}
 use Rattle.cuts.specs.Cuts.{place_of}
 use Rattle.pins.proofs.PinBits.{pin_lt}
-use Rattle.panel.specs.Panels.{deep_of, LeafOf, Pinned, pin_of}
-use Rattle.panel.proofs.GoodPanels.{leaf_in_range}
+use Rattle.panel.specs.Panels.{deep_of, Pinned, pin_of}
 use Rattle.panel.proofs.LeafRows.{is_leaf}
-use Rattle.panel.proofs.Judgements.{no_ancestor, tested_no, tested_ancestor, tested_leaf}
+use Rattle.panel.proofs.Judgements.{no_ancestor, tested_leaf}
 use Rattle.pinning.proofs.pinned.Goals as goal
 
 -- what is told is the pin

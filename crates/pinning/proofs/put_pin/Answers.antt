@@ -2,9 +2,7 @@
 use mathlib.Core.Path.{refl}
 use mathlib.Core.List.{[]}
 use native.Mathlib.Omega.{arith}
-use borrow.Author.Rules.{rules}
 use Rattle.tables.proofs.Tables.{is_done}
-use Rattle.panel.specs.Panels.{LeafOf}
 use Rattle.panel.proofs.GoodPanels.{leaf_in_range}
 use Rattle.panel.proofs.LeafRows.{is_leaf}
 use Rattle.panel.proofs.Lengths.{good_pins}

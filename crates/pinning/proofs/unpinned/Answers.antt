@@ -1,10 +1,6 @@
 -- The tests are the two sides of the merge, one by one; at the border there is no other side.
-use mathlib.Core.Path.{sym, ◌∙◌, subst}
 use native.Mathlib.Omega.{arith}
-use Rattle.tables.proofs.Tables.{says_yes, says_no}
-use Rattle.panel.specs.Calls.{Bare}
 use Rattle.cutting.proofs.ToMerge.{parent_low, range_small, across_in}
-use Rattle.pinning.proofs.Pins.{pair_in}
 use Rattle.pinning.proofs.unpinned.Goals as goal
 
 pub edge_of-e-requires : goal.edge_of-e-requires

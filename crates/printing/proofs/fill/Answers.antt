@@ -1,11 +1,8 @@
 -- The invariant: what stands in the block is the text of the lines so far. Each is sure to fit, so at least one is collected.
-use Prim.Native.Nat.{◌+◌, ◌-◌}
 use native.Mathlib.Omega.{arith}
-use lib.ListN.{length}
 use borrow.Author.Rules.{rules}
-use Rattle.lines.specs.inner.Adding.{longest}
 use Rattle.printing.specs.Printing.Lines.{none}
-use Rattle.printing.proofs.Filling.{Filling, filled_more, filled_counts}
+use Rattle.printing.proofs.Filling.{filled_more, filled_counts}
 use Rattle.printing.proofs.fill.Goals as goal
 
 pub loop-upto-init : goal.loop-upto-init

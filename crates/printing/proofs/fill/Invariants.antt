@@ -1,11 +1,5 @@
-use Prim.Native.Nat.{◌+◌, ◌-◌}
-use native.Mathlib.Omega.{arith}
-use lib.ListN.{length}
-use borrow.Author.Tests.{leb-true, leb-false}
-use borrow.Author.Rules.{rules}
-use Rattle.lines.specs.inner.Adding.{longest}
-use Rattle.printing.specs.Printing.Lines.{none}
-use Rattle.printing.proofs.Filling.{Filling, filled_more, filled_counts}
+use Prim.Native.Nat.{◌-◌}
+use Rattle.printing.proofs.Filling.{Filling}
 use Rattle.printing.proofs.fill.Given as goal
 
 abbrev pub invariant-loop-upto : goal.invariant-loop-upto

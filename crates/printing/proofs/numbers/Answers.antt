@@ -1,14 +1,9 @@
 -- A line that is none of a record's is the leaf's whose number is as many lines behind the last answer.
-use mathlib.Core.Path.{sym, subst⁻¹}
-use mathlib.Core.Logic.{◌≢◌}
+use mathlib.Core.Path.{subst⁻¹}
 use Prim.Native.Nat.{◌+◌, ◌-◌, ◌<◌}
 use native.Mathlib.Omega.{arith}
 use lib.ListN.{length}
-use lib.Seq.{length-take-le}
-use borrow.Author.Rules.{rules}
 use Rattle.steps.specs.Steps.{leaves_in}
-use Rattle.steps.proofs.Answering.{lent_small, lent_inside, lent_good}
-use Rattle.steps.proofs.Parts.{is_open, leaves_count}
 use Rattle.printing.specs.Printing.{Numbers}
 use Rattle.printing.specs.Printing.Numbers.{answer}
 use Rattle.printing.proofs.Showing.{leaf_numbers, few_leaves}

@@ -1,10 +1,6 @@
 -- The invariant: as many lines are handed out as are collected. So each block begins where the one before ended, and in the end all lines are out.
-use mathlib.Core.Path.{◌≡◌, sym}
-use Prim.Native.Nat.{◌-◌, ◌≤◌}
+use mathlib.Core.Path.{sym}
 use native.Mathlib.Omega.{arith}
-use lib.ListN.{length}
-use borrow.Author.Rules.{rules}
-use Rattle.printing.specs.Printing.{line_count}
 use Rattle.scanner.proofs.Ends.{ended_shown, lines_from}
 use Rattle.scanner.proofs.print.Goals as goal
 

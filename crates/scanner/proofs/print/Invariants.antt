@@ -1,10 +1,7 @@
-use mathlib.Core.Path.{◌≡◌, sym}
+use mathlib.Core.Path.{◌≡◌}
 use Prim.Native.Nat.{◌-◌, ◌≤◌}
-use native.Mathlib.Omega.{arith}
 use lib.ListN.{length}
-use borrow.Author.Rules.{rules}
 use Rattle.printing.specs.Printing.{line_count}
-use Rattle.scanner.proofs.Ends.{ended_shown, lines_from}
 use Rattle.scanner.proofs.print.Given as goal
 
 abbrev pub invariant-loop-next : goal.invariant-loop-next

@@ -1,11 +1,8 @@
-use mathlib.Core.Path.{◌≡◌, ◌∙◌}
+use mathlib.Core.Path.{◌≡◌}
 use Prim.Native.Nat.{◌-◌}
-use native.Mathlib.Omega.{arith}
 use lib.ListN.{length}
-use borrow.Author.Rules.{rules}
 use Rattle.records.specs.Records.{most_records}
-use Rattle.requests.proofs.Parts.{Reading, reading_none, reading_holds, reading_room, reading_grows, reading_more, reading_ended, reading_limit}
-use Rattle.scanner.proofs.Ends.{last_part, full_part, part_counts, reading_counts}
+use Rattle.requests.proofs.Parts.{Reading}
 use Rattle.scanner.proofs.scan.Given as goal
 
 abbrev pub invariant-loop-count : goal.invariant-loop-count

@@ -1,6 +1,5 @@
 -- The kind picks the call, and each call has its own contract.
 use native.Mathlib.Omega.{arith}
-use borrow.Author.Rules.{rules}
 use Rattle.steps.proofs.Answering.{kind_split, kind_merge, kind_pin, kind_unpin}
 use Rattle.steps.proofs.change.Goals as goal
 

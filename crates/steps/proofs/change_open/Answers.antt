@@ -1,8 +1,5 @@
 -- The part that is lent is the open panel, which is good; where none is open, no bytes have no right length.
-use mathlib.Core.Path.{sym}
-use lib.Seq.{length-take-le}
-use borrow.Author.Rules.{rules}
-use Rattle.steps.proofs.Answering.{none_called, lent_small, lent_inside, lent_good, lent_called}
+use Rattle.steps.proofs.Answering.{none_called, lent_called}
 use Rattle.steps.proofs.change_open.Goals as goal
 
 pub returns-then-deep-eq0 : goal.returns-then-deep-eq0

@@ -1,14 +1,10 @@
 -- Past the test of the room the bytes fit a panel of the asked depth, and past that of the leaves it is made in them.
-use mathlib.Core.Path.{sym}
 use native.Mathlib.Omega.{arith}
-use lib.Seq.{length-take-le}
-use borrow.Author.Tests.{not-true, not-false}
 use borrow.Author.Rules.{rules}
 use Rattle.panel.specs.Panels.{Fits}
-use Rattle.panel.proofs.Lengths.{fits_small}
 use Rattle.steps.specs.Steps.{panel_in}
 use Rattle.steps.specs.Steps.Called.{in_use}
-use Rattle.steps.proofs.Answering.{called_kept, not_open, open_done, fits_inside, fits_lent}
+use Rattle.steps.proofs.Answering.{called_kept, not_open, open_done}
 use Rattle.steps.proofs.open.Goals as goal
 
 -- past the first test a panel of the asked depth fits

@@ -1,10 +1,8 @@
 -- Past the test of a bad record the kind picks the call, and each call has its own contract.
 use mathlib.Core.Path.{refl, sym}
-use native.Mathlib.Omega.{arith}
 use Rattle.records.specs.Records.{Fine}
 use Rattle.steps.specs.Steps.Step.{bad}
 use Rattle.steps.proofs.Answering.{step_call, step_kept}
-use borrow.Author.Rules.{rules}
 use Rattle.steps.proofs.step.Lts
 use Rattle.steps.proofs.step.Reads
 use Rattle.steps.proofs.step.Tie

@@ -1,11 +1,9 @@
 -- The invariant: the answers so far, the depth and the buffer are those of the records so far in turn. So the open panel is good.
 use mathlib.Core.Path.{sym, subst}
-use Prim.Native.Nat.{◌-◌, ◌<◌}
+use Prim.Native.Nat.{◌<◌}
 use native.Mathlib.Omega.{arith}
-use lib.ListN.{length}
-use borrow.Author.Rules.{rules}
 use Rattle.answers.proofs.Refusing.{answer_byte}
-use Rattle.turns.proofs.Filling.{Filled, filled_none, filled_more, filled_all}
+use Rattle.turns.proofs.Filling.{filled_none, filled_more, filled_all}
 use Rattle.turns.proofs.Running.{runs_holds}
 use Rattle.turns.proofs.in_turn.Goals as goal
 

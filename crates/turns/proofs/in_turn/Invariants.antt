@@ -1,11 +1,6 @@
-use mathlib.Core.Path.{sym, subst}
-use Prim.Native.Nat.{◌-◌, ◌<◌}
-use native.Mathlib.Omega.{arith}
+use Prim.Native.Nat.{◌-◌}
 use lib.ListN.{length}
-use borrow.Author.Rules.{rules}
-use Rattle.answers.proofs.Refusing.{answer_byte}
-use Rattle.turns.proofs.Filling.{Filled, filled_none, filled_more, filled_all}
-use Rattle.turns.proofs.Running.{runs_holds}
+use Rattle.turns.proofs.Filling.{Filled}
 use Rattle.turns.proofs.in_turn.Given as goal
 
 abbrev pub invariant-loop-i : goal.invariant-loop-i

@@ -1,12 +1,9 @@
 -- The leaf bits are the last 2 ^ D of the 64 that end at byte 2 ^ (D - 1); at depth 3 they are byte 3.
-use mathlib.Core.Path.{sym, ap, ◌∙◌}
+use mathlib.Core.Path.{ap, ◌∙◌}
 use Prim.Native.Nat.{◌-◌, ◌*◌, ◌/◌, ◌%◌, ◌^◌}
 use native.Mathlib.Omega.{arith}
 use lib.ListN.{length}
-use Rattle.bits.specs.Bits.{field}
-use Rattle.words.proofs.Rooms.{room_bytes}
 use Rattle.goodcuts.proofs.Spreading.{Last, last, last_leaves}
-use borrow.Author.Rules.{rules}
 use Rattle.goodcuts.proofs.shallow.leaves_of.Lts
 use Rattle.goodcuts.proofs.shallow.leaves_of.Reads
 use Rattle.goodcuts.proofs.shallow.leaves_of.Tie

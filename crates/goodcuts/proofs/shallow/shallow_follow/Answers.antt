@@ -11,7 +11,6 @@ use Rattle.cuts.specs.Cuts.{Cut}
 use Rattle.leafwords.specs.inner.LeafWord.{CutWord}
 use Rattle.leafwords.proofs.LeafWords.{root_all, all_root}
 use Rattle.goodcuts.proofs.Spreading.{root_names, alone, alone_follows}
-use borrow.Author.Rules.{rules}
 use Rattle.goodcuts.proofs.shallow.shallow_follow.Goals as goal
 
 pub overflow_sub-deep-2 : goal.overflow_sub-deep-2

@@ -1,7 +1,7 @@
 -- Each turn halves the words of x and moves the upper halves to the middle of their lanes: in the end they are its bits.
 use Prim.Native.Nat.{◌/◌}
 use native.Mathlib.Omega.{arith}
-use Rattle.goodcuts.proofs.Spreading.{Spreading, Turn, spread_first, spread_last, turn}
+use Rattle.goodcuts.proofs.Spreading.{Turn, spread_first, spread_last, turn}
 use Rattle.goodcuts.proofs.shallow.spread.Goals as goal
 
 here : (c : goal.In-loop-w)

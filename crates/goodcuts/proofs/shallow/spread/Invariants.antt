@@ -1,6 +1,4 @@
-use Prim.Native.Nat.{◌/◌}
-use native.Mathlib.Omega.{arith}
-use Rattle.goodcuts.proofs.Spreading.{Spreading, Turn, spread_first, spread_last, turn}
+use Rattle.goodcuts.proofs.Spreading.{Spreading}
 use Rattle.goodcuts.proofs.shallow.spread.Given as goal
 
 abbrev pub invariant-loop-w : goal.invariant-loop-w

@@ -1,9 +1,8 @@
 -- Within the limits a length is right exactly where it is the one of its own depth.
-use mathlib.Core.Path.{◌≡◌, refl, sym, ap, ◌∙◌}
+use mathlib.Core.Path.{◌≡◌, refl, ap, ◌∙◌}
 use Prim.Native.Nat.{◌+◌}
 use native.Mathlib.Omega.{arith}
 use lib.ListN.{length}
-use borrow.Author.Rules.{rules}
 use Rattle.nodes.proofs.Depths.{depth_le}
 use Rattle.panel.specs.Panels.{size_of, deep_of}
 use Rattle.panel.proofs.Lengths.{length_least, length_greatest, length_right}

@@ -1,19 +1,11 @@
 -- The tests are the parts of `Good`, one by one, at the depth that the length gives.
-use mathlib.Core.Path.{◌≡◌, refl, sym, ◌∙◌, subst}
+use mathlib.Core.Path.{◌≡◌, sym, subst}
 use Prim.Native.Nat.{ℕ}
 use mathlib.Core.List.{List}
 use Rattle.panel.specs.inner.Judging.{Deep}
 use lib.Pow.{pow_pos}
-use borrow.Author.Rules.{rules}
-use Rattle.sums.specs.Sums.{Right}
-use Rattle.words.specs.Words.{leaf_bit}
-use Rattle.pins.specs.Pins.{PinsOnLeaves}
 use Rattle.pins.specs.inner.Steps.{PinRoom}
-use Rattle.cuts.specs.Cuts.{Cut, GoodCuts}
-use Rattle.tables.proofs.Tables.{is_done, is_refused}
-use Rattle.panel.specs.Panels.{deep_of, RightLength}
 use Rattle.panel.proofs.Lengths.{fits_pins}
-use Rattle.panel.proofs.Rows.{wrong_length, not_good, is_good}
 use Rattle.panel.proofs.judging.good_depth.Goals as goal
 
 -- past the first test the length is right, and gives the depth

@@ -5,7 +5,6 @@ use native.Mathlib.Nat.{mod-eq_of_lt}
 use native.Mathlib.Omega.{arith}
 use lib.Pow.{pow_mono}
 use Rattle.panel.proofs.Lengths.{size_five}
-use borrow.Author.Rules.{rules}
 use Rattle.panel.proofs.sizes.size.Goals as goal
 
 pub returns : goal.returns
