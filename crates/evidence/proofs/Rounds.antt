@@ -15,8 +15,10 @@ use Rattle.rounds.specs.Rounds.{Single, InOrder, Lent, Round}
 use Rattle.rounds.specs.Rounds.Single.{bad, split, merge}
 use Rattle.evidence.specs.Known.{opened, four_leaves, five_leaves, asks, known_records, KnownRound}
 use Rattle.evidence.proofs.Held.{Since}
+use Rattle.evidence.proofs.Held.Since.{split as splits, merged as merges}
 use Rattle.evidence.proofs.Known.{known}
 use Rattle.evidence.proofs.Sequences.{Reached, split_done}
+use Rattle.evidence.proofs.Sequences.Reached.{split as has_split, merged as has-merged}
 
 -- what every record keeps, a round keeps: refused, it changes nothing
 module _ {s rs out : List ℕ} {n : ℕ} {x : Lent} (P : List ℕ → Type 0) (f : (r : List ℕ) (m : ℕ) (t u : List ℕ) → P t → Single r t m u → P u) where

@@ -14,6 +14,7 @@ use Rattle.steps.proofs.Keeping.{holds_none}
 use Rattle.turns.specs.Runs.{Runs}
 use Rattle.turns.proofs.Running.{runs_holds}
 use Rattle.requests.specs.Requests.{Part, Run, Parts, Ended}
+use Rattle.requests.specs.Requests.Parts.{none as no-parts, more as one_more}
 use Rattle.requests.proofs.Once.{run_one}
 
 -- ---- parts in turn

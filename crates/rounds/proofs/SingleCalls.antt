@@ -19,6 +19,7 @@ use Rattle.steps.specs.Holding.{Holds}
 use Rattle.steps.proofs.Keeping.{stays}
 use Rattle.turns.specs.Runs.{StepBytes}
 use Rattle.rounds.specs.Rounds.{Single, InOrder}
+use Rattle.rounds.specs.Rounds.Single.{bad as bad-single, split as splits, merge as merges}
 
 -- ---- a good panel stays one, and as long
 

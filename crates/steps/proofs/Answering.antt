@@ -14,6 +14,7 @@ use Rattle.steps.specs.Steps.{panel_in, changed, leaves_in, Called, Step}
 use Rattle.steps.specs.Steps.Called.{opened, refused, split, merge, pin, unpin}
 use Rattle.steps.specs.Steps.Step.{call}
 use Rattle.steps.specs.inner.Changing.{Change}
+use Rattle.steps.specs.inner.Changing.Change.{split as splits, merge as merges, pin as pins, unpin as unpins}
 use Rattle.steps.specs.Holding.{Holds}
 use Rattle.steps.proofs.Parts.{inside, none_right, held_fits}
 
