@@ -1,5 +1,5 @@
 -- A pin byte and the leaf byte beside it hold the same eight places, and all bytes hold all places: what is tested or cleared in every byte is in every place.
-use mathlib.Core.Path.{◌≡◌, sym, ap, ap₂, ◌∙◌, subst}
+use mathlib.Core.Path.{◌≡◌, ap, ap₂, ◌∙◌, subst}
 use mathlib.Core.Logic.{◌↔◌, inl, inr, ⊎_elim}
 use mathlib.Core.List.{List}
 use Prim.Native.Nat.{ℕ, ◌+◌, ◌-◌, ◌*◌, ◌/◌, ◌%◌, ◌^◌, ◌≤◌, ◌<◌, min}
@@ -16,7 +16,7 @@ use lib.Pow.{pow_mono}
 use Rattle.tables.specs.inner.Says.{Says}
 use Rattle.tables.proofs.Tables.{says_equal}
 use Rattle.words.specs.Words.{leaf_bit}
-use Rattle.words.proofs.Rooms.{bounds, quarter_of, quarter}
+use Rattle.words.proofs.Rooms.{bounds, whole_bytes, quarter_of, quarter}
 use Rattle.pins.specs.Pins.{pin_place, pin_bit, PinsOnLeaves}
 use Rattle.pins.specs.inner.Steps.{PinRoom, PinsInBytes, ByteOnLeaves, ClearedBetween, PinsCleared}
 use Rattle.pins.proofs.PinBits.{pin_lt}
@@ -26,6 +26,37 @@ use Rattle.pins.proofs.Within.{and_within, within_and}
 high_digit : (x i : ℕ) → x < 256 → 8 ≤ i → digit x i ≡ 0
 high_digit x i l h = ap (λ (z : ℕ). z % 2) (div-eq_of_lt (let b : x < 2 ^ i = omega (arith, pow_mono {i = 8} {j = i} h) in b))
 
+module _ (D : ℕ) (low : 3 ≤ D) (bs : List ℕ) where
+  byte_bit : (b j i : ℕ) → i < 8 → digit (field bs (8 * (b * 2 ^ (D - 3) + j)) 8) i ≡ bit bs (b * 2 ^ D + (8 * j + i))
+  byte_bit b j i h =
+      run-digit (bit bs) (bit_lt bs) (8 * (b * 2 ^ (D - 3) + j)) 8 i h
+      ∙ ap (bit bs) (omega (arith, ap (λ (x : ℕ). b * x) (whole_bytes D low), mul_left_comm b 8 (2 ^ (D - 3))))
+
+  pub says_byte : {x y : ℕ} (j : ℕ) → x ≡ field bs (8 * (4 * 2 ^ (D - 3) + j)) 8 → y ≡ field bs (8 * (3 * 2 ^ (D - 3) + j)) 8
+      → Says (ByteOnLeaves D bs j) (eqb (bit_and x y) x)
+  unfolding pin_bit leaf_bit
+  says_byte {x} {y} j p q = says_equal (bit_and x y) x (λ e i h. omega (arith, pin i h, leaf i h, and_within x y e i)) (λ f. within_and x y (λ i. all f i (dec_lt i 8)))
+    where
+      pin : (i : ℕ) → i < 8 → digit x i ≡ bit bs (4 * 2 ^ D + (8 * j + i))
+      pin i h = ap (λ u. digit u i) p ∙ byte_bit 4 j i h
+
+      leaf : (i : ℕ) → i < 8 → digit y i ≡ bit bs (3 * 2 ^ D + (8 * j + i))
+      leaf i h = ap (λ u. digit u i) q ∙ byte_bit 3 j i h
+
+      all : ByteOnLeaves D bs j → (i : ℕ) → Dec (i < 8) → digit x i ≤ digit y i
+      all f i (yes h) = omega (arith, pin i h, leaf i h, f i h)
+      all f i (no h) = omega (arith, high_digit x i (omega (arith, p, field_lt bs (8 * (4 * 2 ^ (D - 3) + j)) 8)) (omega arith))
+
+  pub bytes_all : ((j : ℕ) → j < 2 ^ (D - 3) → ByteOnLeaves D bs j) → PinsOnLeaves D bs
+  bytes_all f p h =
+      subst (λ q. pin_bit D bs q ≤ leaf_bit D bs q) (let e : 8 * (p / 8) + p % 8 ≡ p = omega arith in e)
+      (f (p / 8) (omega (arith, whole_bytes D low)) (p % 8) (omega arith))
+
+  pub all_bytes : PinsOnLeaves D bs → (j : ℕ) → j < 2 ^ (D - 3) → ByteOnLeaves D bs j
+  all_bytes f j h i l = f (8 * j + i) (omega (arith, whole_bytes D low))
+
+-- ---- by the number of bytes
+
 -- the number of bytes, as the code computes it
 pub in_bytes : {D : ℕ} {bs : List ℕ} → PinRoom D bs → PinsInBytes D (quarter_of D) bs
 in_bytes r =
@@ -33,13 +64,9 @@ in_bytes r =
     let b = bounds r.words in
     record { whole = omega arith; small = q.small; room = omega arith }
 
--- .. and by the depth
-pub depth_bytes : {D n : ℕ} {bs : List ℕ} → PinRoom D bs → n ≡ 2 ^ (D - 3) → PinsInBytes D n bs
-depth_bytes {D} {n} {bs} r e = subst (λ m. PinsInBytes D m bs) ((quarter r.words).is ∙ sym e) (in_bytes r)
-
 module _ {D n : ℕ} {bs : List ℕ} (w : PinsInBytes D n bs) where
-  byte_bit : (b j i : ℕ) → i < 8 → digit (field bs (8 * (b * n + j)) 8) i ≡ bit bs (b * 2 ^ D + (8 * j + i))
-  byte_bit b j i h =
+  byte_digit : (b j i : ℕ) → i < 8 → digit (field bs (8 * (b * n + j)) 8) i ≡ bit bs (b * 2 ^ D + (8 * j + i))
+  byte_digit b j i h =
       run-digit (bit bs) (bit_lt bs) (8 * (b * n + j)) 8 i h
       ∙ ap (bit bs) (omega (arith, ap (λ (x : ℕ). b * x) w.whole, mul_left_comm b 8 n))
 
@@ -47,18 +74,11 @@ module _ {D n : ℕ} {bs : List ℕ} (w : PinsInBytes D n bs) where
   module _ {x y : ℕ} (j : ℕ) (here : j < n) (p : x ≡ field bs (8 * (4 * n + j)) 8) (q : y ≡ field bs (8 * (3 * n + j)) 8) where
     pin : (i : ℕ) → i < 8 → digit x i ≡ pin_bit D bs (8 * j + i)
     unfolding pin_bit
-    pin i h = ap (λ u. digit u i) p ∙ byte_bit 4 j i h
+    pin i h = ap (λ u. digit u i) p ∙ byte_digit 4 j i h
 
     leaf : (i : ℕ) → i < 8 → digit y i ≡ leaf_bit D bs (8 * j + i)
     unfolding leaf_bit
-    leaf i h = ap (λ u. digit u i) q ∙ byte_bit 3 j i h
-
-    pub says_byte : Says (ByteOnLeaves D bs j) (eqb (bit_and x y) x)
-    says_byte = says_equal (bit_and x y) x (λ e i h. omega (arith, pin i h, leaf i h, and_within x y e i)) (λ f. within_and x y (λ i. all f i (dec_lt i 8)))
-      where
-        all : ByteOnLeaves D bs j → (i : ℕ) → Dec (i < 8) → digit x i ≤ digit y i
-        all f i (yes h) = omega (arith, pin i h, leaf i h, f i h)
-        all f i (no h) = omega (arith, high_digit x i (omega (arith, field_lt bs (8 * (4 * n + j)) 8)) (omega arith))
+    leaf i h = ap (λ u. digit u i) q ∙ byte_digit 3 j i h
 
     -- the bits that both have, for the pin byte
     abbrev cleared : List ℕ
@@ -76,14 +96,6 @@ module _ {D n : ℕ} {bs : List ℕ} (w : PinsInBytes D n bs) where
       pins = λ r l h. subst (λ z. pin_bit D cleared z ≡ min (pin_bit D bs z) (leaf_bit D bs z)) (let e : 8 * j + (r - 8 * j) ≡ r = omega arith in e) (pin_cleared (r - 8 * j) (omega arith));
       same = λ r o. bit_out bs (8 * (4 * n + j)) 8 (bit_and x y) r (⊎_elim (λ l. inl (omega arith)) (λ l. inr (omega arith)) o);
     }
-
-  pub bytes_all : ((j : ℕ) → j < n → ByteOnLeaves D bs j) → PinsOnLeaves D bs
-  bytes_all f p h =
-      subst (λ q. pin_bit D bs q ≤ leaf_bit D bs q) (let e : 8 * (p / 8) + p % 8 ≡ p = omega arith in e)
-      (f (p / 8) (omega arith) (p % 8) (omega arith))
-
-  pub all_bytes : PinsOnLeaves D bs → (j : ℕ) → j < n → ByteOnLeaves D bs j
-  all_bytes f j h i l = f (8 * j + i) (omega arith)
 
 -- ---- pins cleared part by part
 
