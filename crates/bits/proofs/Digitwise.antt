@@ -2,13 +2,13 @@
 use mathlib.Core.Path.{◌≡◌, ap, ◌∙◌}
 use mathlib.Core.Logic.{◌⊎◌, inl, inr, ⊎_elim, ◌↔◌}
 use Prim.Native.Nat.{ℕ, ◌+◌, ◌-◌, ◌*◌, ◌/◌, ◌%◌, ◌^◌, ◌≤◌, ◌<◌, min, max}
-use native.Mathlib.Nat.{le-min, min-le_left, min-le_right, max-le, le-max_left, le-max_right, zero-div}
+use native.Mathlib.Nat.{le-min, min-le_left, min-le_right, max-le, le-max_left, le-max_right}
 use native.Mathlib.Decide.{ℕ_discrete}
 use native.Mathlib.Omega.{arith}
 use lib.Bits.{bit_and, and_step, and_shr, bit_or, or_step, or_shr}
 use lib.Pow.{pow_pos}
 use Rattle.bits.specs.Bits.{digit}
-use Rattle.bits.proofs.Laws.{digit_lt, digit-mod, digit_high, digit_low}
+use Rattle.bits.proofs.Laws.{digit_lt, digit-mod, digit_high}
 
 -- ---- both, and one
 
@@ -55,8 +55,3 @@ module _ (x k w p : ℕ) (h : p < w) where
   shl_digit l =
       digit-mod (x * 2 ^ k) p w h ∙ ap (λ (n : ℕ). digit n p) (let e : x * 2 ^ k ≡ x * 2 ^ k + 0 = omega arith in e)
       ∙ ap (digit (x * 2 ^ k + 0)) (let e : p ≡ k + (p - k) = omega arith in e) ∙ digit_high x k (p - k) (pow_pos k)
-
-  pub shl_none : p < k → digit (x * 2 ^ k % 2 ^ w) p ≡ 0
-  shl_none l =
-      digit-mod (x * 2 ^ k) p w h ∙ ap (λ (n : ℕ). digit n p) (let e : x * 2 ^ k ≡ x * 2 ^ k + 0 = omega arith in e)
-      ∙ digit_low x k p (pow_pos k) l ∙ ap (λ (n : ℕ). n % 2) (zero-div (2 ^ p))

@@ -2,7 +2,7 @@
 use mathlib.Core.Path.{◌≡◌, refl, sym, ap, ap₂, ◌∙◌, subst}
 use mathlib.Core.Logic.{◌⊎◌, inl, inr, ⊎_elim}
 use mathlib.Core.List.{List, [], ◌∷◌}
-use Prim.Native.Nat.{ℕ, zero, suc, ◌+◌, ◌*◌, ◌/◌, ◌%◌, ◌^◌, ◌≤◌, ◌<◌, suc-le-suc}
+use Prim.Native.Nat.{ℕ, zero, suc, ◌+◌, ◌-◌, ◌*◌, ◌/◌, ◌%◌, ◌^◌, ◌≤◌, ◌<◌, suc-le-suc}
 use native.Mathlib.Nat.{one-mul, le_dest, le_of_suc-le-suc, not-suc-le-zero, mod-lt, mod-one, div-one, mod-eq_of_lt, add-zero, add_assoc, pow-suc}
 use native.Mathlib.Numerals.{add-one, one-add}
 use native.Mathlib.Omega.{arith}
@@ -240,6 +240,12 @@ pub field_put_same : (bs : List ℕ) (s w v : ℕ) → v < 2 ^ w → s + w ≤ 8
 field_put_same bs s w v hv l =
     run_ext (bit (put_field bs s w v)) (digit v) s 0 w (λ i h. bit_in bs s w v i h l ∙ ap (digit v) (omega arith))
     ∙ run_digits v 0 w ∙ ap (λ (x : ℕ). x % 2 ^ w) (div-one v) ∙ mod-eq_of_lt hv
+
+-- a part of it
+pub field_put_part : (bs : List ℕ) (t u v s w : ℕ) → t ≤ s → s + w ≤ t + u → t + u ≤ 8 * length bs → field (put_field bs t u v) s w ≡ v / 2 ^ (s - t) % 2 ^ w
+field_put_part bs t u v s w a b l =
+    run_ext (bit (put_field bs t u v)) (digit v) s (s - t) w (λ i h. ap (bit (put_field bs t u v)) (omega arith) ∙ bit_in bs t u v (s - t + i) (omega arith) l)
+    ∙ run_digits v (s - t) w
 
 pub field_put_other : (bs : List ℕ) (s w v t u : ℕ) → (t + u ≤ s) ⊎ (s + w ≤ t) → field (put_field bs s w v) t u ≡ field bs t u
 field_put_other bs s w v t u h =

@@ -1,31 +1,13 @@
--- Several fields put one after the other: side by side they are one, and apart from one another each holds its number.
-use mathlib.Core.Path.{◌≡◌, refl, sym, ap, ap₂, ◌∙◌}
+-- Several fields put one after the other: apart from one another, each holds its number.
+use mathlib.Core.Path.{◌≡◌, refl, sym, ap, ◌∙◌}
 use mathlib.Core.Logic.{◌⊎◌, inl, inr, ⊎_elim}
 use mathlib.Core.List.{List, [], ◌∷◌}
-use Prim.Native.Nat.{ℕ, zero, suc, ◌+◌, ◌*◌, ◌/◌, ◌%◌, ◌^◌, ◌≤◌, ◌<◌}
-use native.Mathlib.Nat.{add-zero, div-one}
+use Prim.Native.Nat.{ℕ, ◌+◌, ◌*◌, ◌^◌, ◌≤◌, ◌<◌}
 use native.Mathlib.Omega.{arith}
 use lib.ListN.{length}
-use lib.Pow.{shr-shr, mod-mod-pow}
-use lib.Pow as P
 use Rattle.bits.specs.Bits.{field}
-use Rattle.bits.specs.inner.Puts.{put_bit, put_field, Apart}
+use Rattle.bits.specs.inner.Puts.{put_field, Apart}
 use Rattle.bits.proofs.Laws.{le_or_lt, length-put_field, field_put_same, field_put_other}
-
--- a field of w bits and the field of u bits behind it
-pub put_join : (bs : List ℕ) (s w u v : ℕ) → put_field (put_field bs s w (v % 2 ^ w)) (s + w) u (v / 2 ^ w) ≡ put_field bs s (w + u) v
-unfolding put_field
-put_join bs s zero u v = ap₂ (λ (x y : ℕ). put_field bs x u y) (add-zero s) (div-one v) ∙ ap (λ (x : ℕ). put_field bs s x v) {x = u} {y = 0 + u} (omega arith)
-put_join bs s (suc w) u v =
-    let low : v % 2 ^ suc w % 2 ≡ v % 2 = ap (λ (x : ℕ). v % 2 ^ x % 2) {x = suc w} {y = w + 1} (omega arith) ∙ mod-mod-pow v w 1 in
-    let high : v % 2 ^ suc w / 2 ≡ v / 2 % 2 ^ w = ap (λ (x : ℕ). v % 2 ^ x / 2) {x = suc w} {y = w + 1} (omega arith) ∙ P.field v w 1 in
-    let top : v / 2 ^ suc w ≡ v / 2 / 2 ^ w = ap (λ (x : ℕ). v / 2 ^ x) {x = suc w} {y = 1 + w} (omega arith) ∙ sym (shr-shr v 1 w) in
-    let place : s + suc w ≡ s + 1 + w = omega arith in
-    let wide : suc w + u ≡ suc (w + u) = omega arith in
-    let rest = put_join (put_bit bs s (v % 2)) (s + 1) w u (v / 2) in
-    cc
-
--- ---- a list of puts
 
 -- the number `value` is put into the `width` bits from bit `start` on
 pub record Put : Type 0 where

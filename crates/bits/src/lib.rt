@@ -1,11 +1,9 @@
 // Bits, bytes and numbers of several bytes in lent bytes.
 #![tactic(auto)]
 
-ghost use Rattle.std.specs.Prelude.{◌≡◌, ◌+◌, ◌*◌, ◌/◌, ◌%◌, ◌≤◌, ◌<◌, length, get_or, set};
+ghost use Rattle.std.specs.Prelude.{◌≡◌, ◌+◌, ◌*◌, ◌/◌, ◌%◌, ◌^◌, ◌≤◌, ◌<◌, length};
 ghost use Rattle.bits.specs.Bits.{bit, field};
 ghost use Rattle.bits.specs.inner.Puts.{put_bit, put_field};
-ghost use Rattle.bits.specs.Little.{little};
-ghost use Rattle.bits.specs.inner.Puts.{put_little};
 
 // Bit p of the bytes: 0 or 1.
 pub fn get_bit(bytes: &[u8], p: usize) -> u8
@@ -27,52 +25,21 @@ pub fn put_bit(bytes: &mut [u8], p: usize, v: u8)
     bytes[i] = b - (old << k) + (v << k);
 }
 
-fn byte(bytes: &[u8], i: usize) -> u32
-    requires { i < length bytes.now }
-    ensures { (result ≡ get_or bytes.now i 0) × (result < 256) }
+// The N bytes from i on as a number, the lowest first: the field of their bits.
+pub fn get_bytes<const N: usize>(bytes: &[u8], i: usize) -> u64
+    requires { (N ≤ 8) × (i + N ≤ length bytes.now) }
+    ensures value { result ≡ field bytes.now (8 * i) (8 * N) }
+    ensures fits { result < 2 ^ (8 * N) }
 {
-    bytes[i] as u32
+    let mut word = [0; 8];
+    word[..N].copy_from_slice(&bytes[i..i + N]);
+    u64::from_le_bytes(word)
 }
 
-// The four bytes from i on as a number, lowest first.
-pub fn get_four(bytes: &[u8], i: usize) -> u32
-    requires { i + 4 ≤ length bytes.now }
-    ensures { result ≡ little bytes.now i 4 }
+// Sets the N bytes from i on to the lowest N of the number v, the lowest first: the field of their bits.
+pub fn put_bytes<const N: usize>(bytes: &mut [u8], i: usize, v: u64)
+    requires { (N ≤ 8) × (i + N ≤ length bytes.old) }
+    ensures { bytes.new ≡ put_field bytes.old (8 * i) (8 * N) v }
 {
-    byte(bytes, i)
-        + 256 * (byte(bytes, i + 1) + 256 * (byte(bytes, i + 2) + 256 * byte(bytes, i + 3)))
-}
-
-// Byte i: the field of its eight bits.
-pub fn get_byte(bytes: &[u8], i: usize) -> u32
-    requires { i < length bytes.now }
-    ensures { result ≡ field bytes.now (8 * i) 8 }
-{
-    byte(bytes, i)
-}
-
-fn store_byte(bytes: &mut [u8], i: usize, v: u32)
-    requires { (i < length bytes.old) × (v < 256) }
-    ensures { bytes.new ≡ set bytes.old i v }
-{
-    bytes[i] = v as u8;
-}
-
-// Sets byte i to v: the field of its eight bits.
-pub fn put_byte(bytes: &mut [u8], i: usize, v: u32)
-    requires { (i < length bytes.old) × (v < 256) }
-    ensures { bytes.new ≡ put_field bytes.old (8 * i) 8 v }
-{
-    store_byte(bytes, i, v);
-}
-
-// Stores a number as the four bytes from i on, lowest first.
-pub fn store_four(bytes: &mut [u8], i: usize, n: u32)
-    requires { i + 4 ≤ length bytes.old }
-    ensures { bytes.new ≡ put_little bytes.old i 4 n }
-{
-    store_byte(bytes, i, n % 256);
-    store_byte(bytes, i + 1, n / 256 % 256);
-    store_byte(bytes, i + 2, n / 256 / 256 % 256);
-    store_byte(bytes, i + 3, n / 256 / 256 / 256 % 256);
+    bytes[i..i + N].copy_from_slice(&v.to_le_bytes()[..N]);
 }

@@ -1,16 +1,15 @@
 -- Where the words have room, every place that the code computes fits the machine's numbers and lies inside.
 use mathlib.Core.Path.{◌≡◌, sym, ap, ◌∙◌}
 use mathlib.Core.List.{List}
-use Prim.Native.Nat.{ℕ, ◌+◌, ◌-◌, ◌*◌, ◌%◌, ◌^◌, ◌≤◌, ◌<◌}
+use Prim.Native.Nat.{ℕ, zero, suc, max, ◌+◌, ◌-◌, ◌*◌, ◌%◌, ◌^◌, ◌≤◌, ◌<◌}
 use native.Mathlib.Omega.{arith}
 use lib.ListN.{length}
 use lib.Pow.{pow_mono, pow-add}
 use Rattle.bits.proofs.Laws.{one_shl}
 use Rattle.nodes.specs.Depth.{depth_of}
-use Rattle.nodes.proofs.Depths.{pow_next, depth_le}
-use Rattle.words.specs.Words.{width}
+use Rattle.nodes.proofs.Depths.{at_root, depth_is, depth_zero, pow_next, depth_le}
 use Rattle.words.specs.inner.Working.{Room}
-use Rattle.words.proofs.Slots.{from, in_panel}
+use Rattle.words.proofs.Slots.{from, wide, in_panel}
 
 -- the leaf bits fill whole bytes
 pub whole_bytes : (D : ℕ) → 3 ≤ D → 2 ^ D ≡ 8 * 2 ^ (D - 3)
@@ -43,27 +42,32 @@ room_bytes r = omega (arith, bounds r)
 pub room_same : {D : ℕ} {xs ys : List ℕ} → length ys ≡ length xs → Room D xs → Room D ys
 room_same e r = record { low = r.low; high = r.high; long = omega arith }
 
--- the place of word k, as the code computes it from the depth d
-pub record Placed (D k d len : ℕ) : Type 0 where
-  pub shallow : d ≤ D
-  pub is : 2 * 2 ^ d + k * (D + 1 - d) ≡ from D k
-  pub small : 2 * 2 ^ d + k * (D + 1 - d) ≤ 524288
-  pub inside : 2 * 2 ^ d + k * (D + 1 - d) + (D + 1 - d) ≤ 8 * len
-  pub bytes : 4 ≤ len
+-- word 0 is as deep as word 1
+pub depth_max : (k : ℕ) → depth_of (max k 1) ≡ depth_of k
+depth_max zero = depth_is {d = 0} {n = 1} at_root ∙ sym depth_zero
+depth_max (suc k) = ap depth_of (omega arith)
 
-pub placed : {D k d : ℕ} {bs : List ℕ} → Room D bs → k < 2 ^ (D + 1) → d ≡ depth_of k → Placed D k d (length bs)
-placed {D} {k} {d} {bs} r hk e =
+-- where word k starts, as the code computes it from the depth d
+pub record Placed (D k d : ℕ) : Type 0 where
+  pub shallow : d ≤ D
+  pub is : 2 * 2 ^ d % 2 ^ 64 + k * (D + 1 - d) ≡ from D k
+  pub small : k * (D + 1 - d) ≤ 524288
+
+pub placed : {D k d : ℕ} → D ≤ 17 → k < 2 ^ (D + 1) → d ≡ depth_of k → Placed D k d
+placed {D} {k} {d} hD hk e =
     let i : 2 * 2 ^ d + k * (D + 1 - d) ≡ from D k = ap (λ (x : ℕ). 2 * 2 ^ x + k * (D + 1 - x)) e ∙ omega (arith, pow_next (depth_of k)) in
-    let b = bounds r in
-    let h = in_panel D k hk in
-    let w : width D d ≡ width D (depth_of k) = ap (width D) e in
-    record {
-      shallow = omega (arith, depth_le k D hk);
-      is = i;
-      small = omega arith;
-      inside = omega arith;
-      bytes = room_bytes r;
-    }
+    let all : from D k ≤ 524288 = omega (arith, in_panel D k hk, pow_mono {i = D + 2} {j = 19} (omega arith)) in
+    record { shallow = omega (arith, depth_le k D hk); is = omega arith; small = omega arith }
+
+-- and that it lies inside
+pub record Inside (D k len : ℕ) : Type 0 where
+  pub bytes : 4 ≤ len
+  pub whole : from D k + wide D k ≤ 8 * len
+  pub some : 0 < wide D k
+  pub few : wide D k ≤ 18
+
+pub word_inside : {D k : ℕ} {bs : List ℕ} → Room D bs → k < 2 ^ (D + 1) → Inside D k (length bs)
+word_inside {D} {k} r hk = record { bytes = room_bytes r; whole = omega (arith, in_panel D k hk); some = omega (arith, depth_le k D hk); few = omega arith }
 
 -- the number of leaf bytes, as the code computes it
 abbrev pub quarter_of : ℕ → ℕ

@@ -6,15 +6,15 @@ ghost use Rattle.nodes.specs.Depth.{depth_of};
 ghost use Rattle.words.specs.Words.{width, start, word, leaf_bit};
 ghost use Rattle.words.specs.inner.Working.{put_word, put_leaf_bit, Room};
 
-// The depth of word k: that of node k, and 0 for word 0.
-fn depth_of(k: usize) -> usize
-    requires { k < 2 ^ 32 }
-    ensures { result ≡ depth_of k }
+// Where word k lies: the bit at which it starts, and how many bits it has. Word 0 is as deep as word 1.
+fn slot(deep: usize, k: usize) -> (usize, usize)
+    requires { (deep ≤ 17) × (k < 2 ^ (deep + 1)) }
+    ensures start { result.0 ≡ start deep (depth_of k) k }
+    ensures width { result.1 ≡ width deep (depth_of k) }
 {
-    if k == 0 {
-        return 0;
-    }
-    nodes::depth(nodes::Node(k as u32)) as usize
+    let d = nodes::depth(nodes::Node(k.max(1) as u32)) as usize;
+    let w = deep + 1 - d;
+    ((2usize << d) + k * w, w)
 }
 
 // Where row d starts: the first bit of word 2^d.
@@ -30,9 +30,8 @@ pub fn get_word(bytes: &[u8], deep: usize, k: usize) -> u32
     requires { Room deep bytes.now × (k < 2 ^ (deep + 1)) }
     ensures { result ≡ word deep bytes.now k }
 {
-    let d = depth_of(k);
-    let w = deep + 1 - d;
-    fields::get_field(bytes, (2usize << d) + k * w, w)
+    let (start, width) = slot(deep, k);
+    fields::get_field(bytes, start, width)
 }
 
 // Sets word k to v, which fits it.
@@ -40,12 +39,12 @@ pub fn put_word(bytes: &mut [u8], deep: usize, k: usize, v: u32)
     requires { Room deep bytes.old × (k < 2 ^ (deep + 1)) × (v < 2 ^ width deep (depth_of k)) }
     ensures { bytes.new ≡ put_word deep bytes.old k v }
 {
-    let d = depth_of(k);
-    let w = deep + 1 - d;
-    fields::put_field(bytes, (2usize << d) + k * w, w, v);
+    let (start, width) = slot(deep, k);
+    fields::put_field(bytes, start, width, v);
 }
 
 // Leaf bit p: 0 or 1.
+#[tactic(auto, using(crate::proofs::Rooms::bounds), unfolding(crate::specs::Words::leaf_bit))]
 pub fn leaf_bit(bytes: &[u8], deep: usize, p: usize) -> u8
     requires { Room deep bytes.now × (p < 2 ^ deep) }
     ensures { result ≡ leaf_bit deep bytes.now p }
@@ -54,6 +53,7 @@ pub fn leaf_bit(bytes: &[u8], deep: usize, p: usize) -> u8
 }
 
 // Sets leaf bit p to v, 0 or 1; the sums stay as they are.
+#[tactic(auto, using(crate::proofs::Rooms::bounds), unfolding(crate::specs::inner::Working::put_leaf_bit))]
 pub fn put_leaf_bit(bytes: &mut [u8], deep: usize, p: usize, v: u8)
     requires { Room deep bytes.old × (p < 2 ^ deep) × (v < 2) }
     ensures { bytes.new ≡ put_leaf_bit deep bytes.old p v }
@@ -62,6 +62,7 @@ pub fn put_leaf_bit(bytes: &mut [u8], deep: usize, p: usize, v: u8)
 }
 
 // The bytes that the leaf bits fill, as a part of those lent.
+#[tactic(auto, using(crate::proofs::Rooms::bounds))]
 pub fn leaf_part(bytes: &[u8], deep: usize) -> &[u8]
     requires { Room deep bytes.now }
     ensures { result.now ≡ take (2 ^ (deep - 3)) (drop (3 * 2 ^ (deep - 3)) bytes.now) }

@@ -1,4 +1,4 @@
--- Bytes with some bits or bytes set, and fields that stand apart.
+-- Bytes with some bits set, and fields that stand apart.
 use Rattle.std.specs.Prelude.{List, ℕ, zero, suc, ◌+◌, ◌*◌, ◌/◌, ◌%◌, ◌^◌, ◌<◌, get_or, set}
 
 -- n with its digit k set to v
@@ -17,8 +17,3 @@ put_field bs s (suc w) v = put_field (put_bit bs s (v % 2)) (s + 1) w (v / 2)
 -- the w bits from bit s on and the v bits from bit t on have none in common
 abbrev pub Apart : ℕ → ℕ → ℕ → ℕ → Type 0
 Apart s w t v = s < t + v → t < s + w → ⊥
-
--- the n bytes from i on set to the number v, the lowest first
-unfoldable pub put_little : List ℕ → ℕ → ℕ → ℕ → List ℕ
-put_little bs i zero v = bs
-put_little bs i (suc n) v = put_little (set bs i (v % 256)) (i + 1) n (v / 256)

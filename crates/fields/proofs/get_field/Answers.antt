@@ -13,5 +13,5 @@ pub returns : goal.returns
 returns c =
     let a = c.args in
     let i = c.place-i.result in
-    ap₂ (λ (x y : ℕ). x / 2 ^ (a.s - 8 * i) % y) c.get_four.ensures (one_shl a.w 32 (omega arith))
-    ∙ sym (field_window a.bytes.now (λ j. (c.shared_slice_known-1.given j).fits) a.s a.w i 4 (omega arith) (omega (arith, c.place-i.ensures.high a.w (omega arith) (omega arith))))
+    ap₂ (λ (x y : ℕ). x / 2 ^ (a.s - 8 * i) % y) c.get_bytes-n.ensures.value (one_shl a.w 32 (omega arith))
+    ∙ sym (field_window a.bytes.now a.s a.w (8 * i) 32 c.place-i.ensures.low (c.place-i.ensures.high a.w (omega arith) (omega arith)))
