@@ -13,40 +13,36 @@ fn make_seven(bytes: &mut [u8], m: usize, i: usize)
     requires { (4 * m ≤ length bytes.old) × (m ≤ 16384) × (i < m) }
     ensures { SevenMade m i bytes.old bytes.new }
 {
-    let s = sums::sevens::seven(bits::get_byte(bytes, 3 * m + i));
-    bits::put_byte(bytes, 2 * m + i, s % 256);
+    let s = sums::sevens::seven(bits::get_bytes::<1>(bytes, 3 * m + i) as u32);
+    bits::put_bytes::<1>(bytes, 2 * m + i, u64::from(s % 256));
     fields::put_field(bytes, 10 * m + 6 * i, 6, s / 256 % 64);
     fields::put_field(bytes, 6 * m + 4 * i, 4, s / 16384);
 }
 
-// Rows deep - 3 to deep - 1.
+// Rows deep - 3 to deep - 1. A function of this loop and of that in `making_six` would take the turn as a closure, and say of it all that
+// `SevenMade` and `SixMade` say: it is longer than both.
 fn make_lowest_three(bytes: &mut [u8], deep: usize)
     requires { Room deep bytes.old }
     ensures { Made deep (2 ^ (deep - 3)) (2 ^ deep) bytes.old bytes.new }
 {
     let m: usize = 1 << (deep - 3);
-    let mut i: usize = 0;
-    while i < m {
+    for i in 0..m {
         make_seven(bytes, m, i);
-        i += 1;
     }
 }
 
-// Row d: word k starts at bit p, word 2k at bit c.
+// Row d: the next word starts at bit p, its children's at bit c.
 fn make_row(bytes: &mut [u8], deep: usize, d: usize)
     requires { Room deep bytes.old × (d < deep) }
     ensures { Made deep (2 ^ d) (2 ^ (d + 1)) bytes.old bytes.new }
 {
     let w = deep - d;
-    let end: usize = 2 << d;
-    let mut k: usize = 1 << d;
     let mut p = words::row_start(deep, d);
     let mut c = words::row_start(deep, d + 1);
-    while k < end {
+    for _ in 1usize << d..2 << d {
         let x = fields::get_field(bytes, c, w);
         let y = fields::get_field(bytes, c + w, w);
         fields::put_field(bytes, p, w + 1, x + y);
-        k += 1;
         p += w + 1;
         c += 2 * w;
     }
@@ -57,9 +53,7 @@ fn make_high_rows(bytes: &mut [u8], deep: usize, end: usize)
     requires { Room deep bytes.old × (end ≤ deep) }
     ensures { Made deep 1 (2 ^ end) bytes.old bytes.new }
 {
-    let mut d = end;
-    while 0 < d {
-        d -= 1;
+    for d in (0..end).rev() {
         make_row(bytes, deep, d);
     }
 }

@@ -10,10 +10,10 @@ fn make_six(bytes: &mut [u8], m: usize, j: usize)
     requires { (32 * m ≤ length bytes.old) × (m ≤ 2048) × (j < m) }
     ensures { SixMade m j bytes.old bytes.new }
 {
-    let s = sums::sixes::six_rows(fields::get_eight(bytes, 24 * m + 8 * j));
-    fields::put_eight(bytes, 16 * m + 8 * j, s.twos);
-    fields::put_six(bytes, 10 * m + 6 * j, s.fours);
-    fields::put_four(bytes, 6 * m + 4 * j, s.eights as u32);
+    let s = sums::sixes::six_rows(bits::get_bytes::<8>(bytes, 24 * m + 8 * j));
+    bits::put_bytes::<8>(bytes, 16 * m + 8 * j, s.twos);
+    bits::put_bytes::<6>(bytes, 10 * m + 6 * j, s.fours);
+    bits::put_bytes::<4>(bytes, 6 * m + 4 * j, s.eights);
     fields::put_field(bytes, 28 * m + 20 * j, 20, s.sixteens as u32);
     fields::put_field(bytes, 16 * m + 12 * j, 12, s.halves as u32);
     fields::put_field(bytes, 9 * m + 7 * j, 7, s.all as u32);
@@ -25,9 +25,7 @@ pub fn make_lowest_six(bytes: &mut [u8], deep: usize)
     ensures { Made deep (2 ^ (deep - 6)) (2 ^ deep) bytes.old bytes.new }
 {
     let m: usize = 1 << (deep - 6);
-    let mut j: usize = 0;
-    while j < m {
+    for j in 0..m {
         make_six(bytes, m, j);
-        j += 1;
     }
 }

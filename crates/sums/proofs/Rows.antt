@@ -2,14 +2,14 @@
 use mathlib.Core.Path.{◌≡◌, sym, ap, ap₂, ◌∙◌, subst}
 use mathlib.Core.Logic.{⊎_elim}
 use mathlib.Core.List.{List}
-use Prim.Native.Nat.{ℕ, zero, suc, ◌+◌, ◌-◌, ◌*◌, ◌^◌, ◌≤◌, ◌<◌}
+use Prim.Native.Nat.{ℕ, zero, suc, ◌+◌, ◌-◌, ◌*◌, ◌%◌, ◌^◌, ◌≤◌, ◌<◌}
 use native.Mathlib.Nat.{add-zero, suc-mul, zero-mul, le_refl}
 use native.Mathlib.Omega.{arith}
 use lib.ListN.{length}
 use lib.Pow.{pow_mono}
 use Rattle.bits.specs.Bits.{field}
 use Rattle.bits.specs.inner.Puts.{put_field}
-use Rattle.bits.proofs.Laws.{field_lt, le_or_lt}
+use Rattle.bits.proofs.Laws.{le_or_lt}
 use Rattle.nodes.proofs.Depths.{pow_next, at_from, depth_is}
 use Rattle.words.specs.Words.{start, word}
 use Rattle.words.specs.inner.Working.{put_word, Room}
@@ -53,19 +53,18 @@ sums_next D bs m k f s = sums_join D bs m k (k + 1) f (λ j a b. let e : k ≡ j
 
 -- ---- a row by running places
 
--- word k of row d, or the first behind the row, starts at bit p, and word 2k at bit c
-pub record Running (D d k p c : ℕ) : Type 0 where
-  pub low : 2 ^ d ≤ k
-  pub high : k ≤ 2 * 2 ^ d
+-- word k, or the first behind its row, starts at bit p, and its children's words at bit c
+pub record Running (D k p c : ℕ) : Type 0 where
   pub own : p ≡ from D k
   pub kids : c ≡ from D (2 * k)
 
 -- what stands there: word k has w + 1 bits and its children's words have w each, all are inside, and their places are small
-pub record Here (D w : ℕ) (bs : List ℕ) (k p c : ℕ) : Type 0 where
+pub record Here (D d k p c : ℕ) (bs : List ℕ) (w : ℕ) : Type 0 where
   pub bytes : 4 ≤ length bs
   pub narrow : w ≤ 17
+  pub low : 2 ^ d ≤ k
+  pub high : k < 2 ^ (d + 1)
   pub node : k < 2 ^ D
-  pub node_small : k < 131072
   pub own_in : p + (w + 1) ≤ 8 * length bs
   pub kids_in : c + 2 * w ≤ 8 * length bs
   pub own_small : p + (w + 1) ≤ 524288
@@ -74,69 +73,71 @@ pub record Here (D w : ℕ) (bs : List ℕ) (k p c : ℕ) : Type 0 where
   pub left_word : field bs c w ≡ word D bs (2 * k)
   pub right_word : field bs (c + w) w ≡ word D bs (2 * k + 1)
   pub own_put : (v : ℕ) → put_field bs p (w + 1) v ≡ put_word D bs k v
-  pub sum_lt : field bs c w + field bs (c + w) w < 2 ^ (w + 1)
+  pub twice : 2 ^ (w + 1) ≡ 2 * 2 ^ w
   pub sum_small : 2 ^ (w + 1) ≤ 262144
+  pub next : Running D (k + 1) (p + (w + 1)) (c + 2 * w)
 
-module _ {D d : ℕ} (h : d < D) where
-  abbrev w : ℕ
-  w = D - d
+module _ {D d : ℕ} {bs : List ℕ} (given : Room D bs × (d < D)) where
+  -- the row's first word, as the code computes it, and where it ends
+  pub row_first : 1 * 2 ^ d % 2 ^ 64 ≡ 2 ^ d
+  row_first = let s = pow_mono {i = d} {j = 16} (omega (arith, given.0.high)) in omega arith
 
-  pub running_first : {k p c : ℕ} → k ≡ 2 ^ d → p ≡ start D d (2 ^ d) → c ≡ start D (d + 1) (2 ^ (d + 1)) → Running D d k p c
-  running_first {k} e f g =
-      let two : 2 ^ (d + 1) ≡ 2 * k = omega (arith, pow_next d) in
-      record {
-        low = omega arith;
-        high = omega arith;
-        own = f ∙ sym (row_from D d) ∙ ap (from D) (sym e);
-        kids = g ∙ sym (row_from D (d + 1)) ∙ ap (from D) two;
-      }
+  pub row_end : 2 * 2 ^ d % 2 ^ 64 ≡ 2 ^ (d + 1)
+  row_end = let s = pow_mono {i = d} {j = 16} (omega (arith, given.0.high)) in omega (arith, pow_next d)
 
-  module _ {k p c : ℕ} (r : Running D d k p c) (hi : k < 2 * 2 ^ d) where
+  pub running_first : {p c : ℕ} → p ≡ start D d (2 ^ d) → c ≡ start D (d + 1) (2 ^ (d + 1)) → Running D (1 * 2 ^ d % 2 ^ 64) p c
+  running_first e f = record {
+    own = e ∙ sym (row_from D d) ∙ ap (from D) (sym row_first);
+    kids = f ∙ sym (row_from D (d + 1)) ∙ ap (from D) {x = 2 ^ (d + 1)} {y = 2 * (1 * 2 ^ d % 2 ^ 64)} (omega (arith, row_first, pow_next d));
+  }
+
+  module _ {k p c : ℕ} (r : Running D k p c) (lo : 1 * 2 ^ d % 2 ^ 64 ≤ k) (hi : k < 2 * 2 ^ d % 2 ^ 64) where
+    abbrev w : ℕ
+    w = D - d
+
+    low : 2 ^ d ≤ k
+    low = omega (arith, row_first)
+
+    high : k < 2 ^ (d + 1)
+    high = omega (arith, row_end)
+
     own_next : from D (k + 1) ≡ p + (w + 1)
-    own_next = omega (arith, from_at D d (w + 1) (omega arith) (omega arith) k 1 r.low (omega (arith, pow_next d)))
+    own_next = omega (arith, r.own, from_at D d (w + 1) (omega arith) (omega arith) k 1 low (omega (arith, high)))
 
     kids_at : (i : ℕ) → i ≤ 2 → from D (2 * k + i) ≡ c + i * w
-    kids_at i l = omega (arith, from_at D (d + 1) w (omega arith) (omega arith) (2 * k) i (omega (arith, pow_next d)) (omega (arith, pow_next d, pow_next (d + 1))))
+    kids_at i b = omega (arith, r.kids, from_at D (d + 1) w (omega arith) (omega arith) (2 * k) i (omega (arith, low, pow_next d)) (omega (arith, high, pow_next (d + 1))))
 
-    kids_next : from D (2 * (k + 1)) ≡ c + 2 * w
-    kids_next = ap (from D) {x = 2 * (k + 1)} {y = 2 * k + 2} (omega arith) ∙ kids_at 2 (omega arith)
+    up : (n : ℕ) → n ≤ 2 ^ (d + 1 + 1) → from D n ≤ 2 ^ (D + 2)
+    up n b = let e = pow_mono {i = d + 1 + 1} {j = D + 1} (omega arith) in omega (arith, from_mono D n (2 ^ (D + 1)) (omega arith) (le_refl (2 ^ (D + 1))), from_top D)
 
-    -- on to the next word
-    pub running_next : Running D d (k + 1) (p + (D - d + 1)) (c + 2 * (D - d))
-    running_next = record { low = omega arith; high = omega arith; own = sym own_next; kids = sym kids_next }
-
-    up : (n : ℕ) → n ≤ 4 * 2 ^ d → from D n ≤ 2 ^ (D + 2)
-    up n l =
-        omega (arith, from_mono D n (2 ^ (D + 1)) (omega (arith, pow_next d, pow_next D, pow_mono {i = d + 1} {j = D} (omega arith))) (le_refl (2 ^ (D + 1))), from_top D)
-
-    child : (bs : List ℕ) (i : ℕ) → i < 2 → field bs (c + i * w) w ≡ word D bs (2 * k + i)
-    child bs i l =
+    child : (i : ℕ) → i < 2 → field bs (c + i * w) w ≡ word D bs (2 * k + i)
+    child i b =
         ap (λ (s : ℕ). field bs s w) (sym (kids_at i (omega arith)))
-        ∙ sym (word_at D (d + 1) w (omega arith) (omega arith) bs (2 * k + i) (omega (arith, pow_next d)) (omega (arith, pow_next d, pow_next (d + 1))))
+        ∙ sym (word_at D (d + 1) w (omega arith) (omega arith) bs (2 * k + i) (omega (arith, low, pow_next d)) (omega (arith, high, pow_next (d + 1))))
 
-    pub here : {bs : List ℕ} → Room D bs → Here D (D - d) bs k p c
+    pub here : Here D d k p c bs (D - d)
     unfolding put_word
-    here {bs} room =
-        let b = bounds room in
-        let o : from D (k + 1) ≤ 2 ^ (D + 2) = up (k + 1) (omega arith) in
-        let q : from D (2 * (k + 1)) ≤ 2 ^ (D + 2) = up (2 * (k + 1)) (omega arith) in
-        let n : k < 2 ^ D = omega (arith, pow_next d, pow_mono {i = d + 1} {j = D} (omega arith)) in
-        let x : p + (w + 1) ≤ 2 ^ (D + 2) = omega (arith, own_next) in
-        let y : c + 2 * w ≤ 2 ^ (D + 2) = omega (arith, kids_next) in
-        let e : wide D k ≡ w + 1 = wide_at D d (w + 1) (omega arith) (omega arith) k r.low (omega (arith, pow_next d)) in
+    here =
+        let b = bounds given.0 in
+        let two = pow_next (d + 1) in
+        let x : p + (w + 1) ≤ 2 ^ (D + 2) = omega (arith, own_next, up (k + 1) (omega (arith, high))) in
+        let y : c + 2 * w ≤ 2 ^ (D + 2) = omega (arith, kids_at 2 (omega arith), up (2 * k + 2) (omega (arith, high))) in
+        let e : wide D k ≡ w + 1 = wide_at D d (w + 1) (omega arith) (omega arith) k low high in
         record {
-          bytes = room_bytes room;
+          bytes = room_bytes given.0;
           narrow = omega arith;
-          node = n;
-          node_small = omega arith;
+          low = low;
+          high = high;
+          node = omega (arith, high, pow_mono {i = d + 1} {j = D} (omega arith));
           own_in = omega arith;
           kids_in = omega arith;
           own_small = omega arith;
           kids_small = omega arith;
-          own_word = ap (λ (s : ℕ). field bs s (w + 1)) r.own ∙ sym (word_at D d (w + 1) (omega arith) (omega arith) bs k r.low (omega (arith, pow_next d)));
-          left_word = ap (λ (s : ℕ). field bs s w) (omega (arith, zero-mul w)) ∙ child bs 0 (omega arith) ∙ ap (word D bs) (add-zero (2 * k));
-          right_word = ap (λ (s : ℕ). field bs s w) (omega arith) ∙ child bs 1 (omega arith);
+          own_word = ap (λ (s : ℕ). field bs s (w + 1)) r.own ∙ sym (word_at D d (w + 1) (omega arith) (omega arith) bs k low high);
+          left_word = ap (λ (s : ℕ). field bs s w) (omega (arith, zero-mul w)) ∙ child 0 (omega arith) ∙ ap (word D bs) (add-zero (2 * k));
+          right_word = ap (λ (s : ℕ). field bs s w) (omega arith) ∙ child 1 (omega arith);
           own_put = λ v. ap₂ (λ (s t : ℕ). put_field bs s t v) r.own (sym e);
-          sum_lt = omega (arith, field_lt bs c w, field_lt bs (c + w) w, pow_next w);
+          twice = pow_next w;
           sum_small = pow_mono {i = w + 1} {j = 18} (omega arith);
+          next = record { own = sym own_next; kids = sym (kids_at 2 (omega arith)) ∙ ap (from D) {x = 2 * k + 2} {y = 2 * (k + 1)} (omega arith) };
         }

@@ -14,8 +14,8 @@ fn seven_right(bytes: &[u8], m: usize, i: usize) -> bool
     requires { (4 * m ≤ length bytes.now) × (m ≤ 16384) × (i < m) }
     ensures { Says (SevenAt m bytes.now i) result }
 {
-    let s = sums::sevens::seven(bits::get_byte(bytes, 3 * m + i));
-    let y = bits::get_byte(bytes, 2 * m + i);
+    let s = sums::sevens::seven(bits::get_bytes::<1>(bytes, 3 * m + i) as u32);
+    let y = bits::get_bytes::<1>(bytes, 2 * m + i) as u32;
     let z = fields::get_field(bytes, 10 * m + 6 * i, 6);
     let u = fields::get_field(bytes, 6 * m + 4 * i, 4);
     s == y + 256 * z + 16384 * u
@@ -27,34 +27,24 @@ fn lowest_three(bytes: &[u8], deep: usize) -> bool
     ensures { Says (SumsBetween deep bytes.now (2 ^ (deep - 3)) (2 ^ deep)) result }
 {
     let m: usize = 1 << (deep - 3);
-    let mut i: usize = 0;
-    while i < m {
-        if seven_right(bytes, m, i) {
-            i += 1;
-        } else {
-            return false;
-        }
-    }
-    true
+    (0..m).all(|i| seven_right(bytes, m, i))
 }
 
-// Row d: word k starts at bit p, word 2k at bit c.
+// Row d: the next word starts at bit p, its children's at bit c. Where both are computed from the word's number, all tests together take a
+// sixth longer.
 fn row(bytes: &[u8], deep: usize, d: usize) -> bool
     requires { Room deep bytes.now × (d < deep) }
     ensures { Says (SumsBetween deep bytes.now (2 ^ d) (2 ^ (d + 1))) result }
 {
     let w = deep - d;
-    let end: usize = 2 << d;
-    let mut k: usize = 1 << d;
     let mut p = words::row_start(deep, d);
     let mut c = words::row_start(deep, d + 1);
-    while k < end {
+    for _ in 1usize << d..2 << d {
         let x = fields::get_field(bytes, c, w);
         let y = fields::get_field(bytes, c + w, w);
         if fields::get_field(bytes, p, w + 1) != x + y {
             return false;
         }
-        k += 1;
         p += w + 1;
         c += 2 * w;
     }
@@ -66,15 +56,7 @@ fn high_rows(bytes: &[u8], deep: usize, end: usize) -> bool
     requires { Room deep bytes.now × (end ≤ deep) }
     ensures { Says (SumsBetween deep bytes.now 1 (2 ^ end)) result }
 {
-    let mut d: usize = 0;
-    while d < end {
-        if row(bytes, deep, d) {
-            d += 1;
-        } else {
-            return false;
-        }
-    }
-    true
+    (0..end).all(|d| row(bytes, deep, d))
 }
 
 // Whether every word from 1 up, above depth deep, is the sum of its two children's words.
@@ -83,15 +65,10 @@ pub fn sums_right(bytes: &[u8], deep: usize) -> bool
     ensures { Says (SumsRight deep bytes.now) result }
 {
     if deep < 6 {
-        if lowest_three(bytes, deep) {
-            return high_rows(bytes, deep, deep - 3);
-        }
-        return false;
+        lowest_three(bytes, deep) && high_rows(bytes, deep, deep - 3)
+    } else {
+        testing_six::lowest_six(bytes, deep) && high_rows(bytes, deep, deep - 6)
     }
-    if testing_six::lowest_six(bytes, deep) {
-        return high_rows(bytes, deep, deep - 6);
-    }
-    false
 }
 
 // Whether bits 0 and 1 are zero, word 0 holds deep, and every sum is right.
@@ -101,8 +78,5 @@ pub fn all_right(bytes: &[u8], deep: usize) -> bool
 {
     // word 0 with the two bits before it
     let head = fields::get_field(bytes, 0, deep + 3) as usize;
-    if head != 4 * deep {
-        return false;
-    }
-    sums_right(bytes, deep)
+    head == 4 * deep && sums_right(bytes, deep)
 }

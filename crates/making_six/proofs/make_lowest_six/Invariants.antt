@@ -1,4 +1,4 @@
-use Prim.Native.Nat.{◌*◌, ◌-◌}
+use Prim.Native.Nat.{◌*◌}
 use lib.ListN.{length}
 use Rattle.sums.specs.inner.Rows.{SixAt}
 use Rattle.words.proofs.Rooms.{Blocks}
@@ -7,6 +7,3 @@ use Rattle.making_six.proofs.make_lowest_six.Given as goal
 
 abbrev pub invariant-loop-j : goal.invariant-loop-j
 invariant-loop-j l = Blocks l.deep (length l.initial.bytes) l.m × Blockwise (SixAt l.m) (9 * l.m) (192 * l.m) l.j l.initial.bytes l.bytes
-
-abbrev pub decreases-loop-j : goal.decreases-loop-j
-decreases-loop-j l = l.m - l.j

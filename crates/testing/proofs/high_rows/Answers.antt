@@ -1,31 +1,19 @@
--- The rows before row d are right, and row d ends where the next begins.
-use Prim.Native.Nat.{◌+◌, ◌^◌}
+-- A word before row end is in the row of its depth.
+use Prim.Native.Nat.{ℕ, ◌+◌, ◌^◌}
 use native.Mathlib.Omega.{arith}
+use borrow.Author.Rules.{rules}
 use lib.Pow.{pow_mono, pow_pos}
-use Rattle.tables.proofs.Tables.{says_yes, says_no}
-use Rattle.sums.proofs.Rows.{sums_join}
+use Rattle.nodes.specs.Depth.{depth_of}
+use Rattle.nodes.proofs.Depths.{at_depth, at_below}
+use Rattle.sums.specs.inner.Rows.{SumsBetween}
+use Rattle.tables.proofs.Each.{says_each}
 use Rattle.testing.proofs.high_rows.Goals as goal
-
-pub loop-d-init : goal.loop-d-init
-loop-d-init c = (omega arith, λ k lo hi. absurd (omega arith))
-
-pub row-requires : goal.row-requires
-row-requires c = (c.requires.0, omega arith)
-
-pub loop-d-preserved : goal.loop-d-preserved
-loop-d-preserved c =
-    let l = c.loop-d in
-    let a = c.args in
-    (omega arith, sums_join a.deep a.bytes.now 1 (2 ^ l.d) (2 ^ (l.d + 1)) l.invariant.1 (c.row.ensures.yes c.if-row.true))
-
-pub returns-else-row : goal.returns-else-row
-returns-else-row c =
-    let l = c.loop-d in
-    let a = c.args in
-    says_no (λ s. c.row.ensures.no c.if-row.false (λ k lo hi. s k (omega (arith, pow_pos l.d)) (omega (arith, pow_mono {i = l.d + 1} {j = a.end} (omega arith)))))
 
 pub returns : goal.returns
 returns c =
-    let l = c.loop-d in
     let a = c.args in
-    says_yes (λ k lo hi. l.invariant.1 k lo (omega (arith, pow_mono {i = a.end} {j = l.d} (omega arith))))
+    let h = says_each (λ (d : ℕ). SumsBetween a.deep a.bytes.now (2 ^ d) (2 ^ (d + 1))) _ _ _ c.all.result c.all.ensures.ran (λ x q k. search rules) (λ x q k. search rules) in
+    record {
+      yes = λ e k lo hi. let d = at_depth lo in h.yes e (depth_of k) (omega arith) (grind (arith, pow_mono {i = a.end} {j = depth_of k})) k d.low (at_below d);
+      no = λ e t. h.no e (λ d z l k lo hi. t k (omega (arith, pow_pos d)) (omega (arith, pow_mono {i = d + 1} {j = a.end} (omega arith))));
+    }

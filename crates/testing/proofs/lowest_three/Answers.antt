@@ -1,30 +1,25 @@
 -- The rows are right where they are over each eight leaf bits.
-use mathlib.Core.Path.{subst, subst⁻¹}
-use Prim.Native.Nat.{ℕ, ◌-◌}
+use Prim.Native.Nat.{◌-◌}
 use native.Mathlib.Omega.{arith}
-use borrow.Author.Count.{below_none, below_more}
-use Rattle.tables.proofs.Tables.{says_yes, says_no}
+use borrow.Author.Rules.{rules}
+use Rattle.std.proofs.iter.Serving.{serving}
 use Rattle.sums.specs.inner.Rows.{SevenAt}
-use Rattle.words.proofs.Rooms.{quarter}
+use Rattle.words.proofs.Rooms.{quarter, quarter_of}
 use Rattle.sums.proofs.LowThree.{sevens_sums, sums_seven}
+use Rattle.tables.proofs.Each.{says_each}
 use Rattle.testing.proofs.lowest_three.Goals as goal
 
-pub loop-i-init : goal.loop-i-init
-loop-i-init c = (quarter c.requires, below_none _)
-
-pub loop-i-preserved : goal.loop-i-preserved
-loop-i-preserved c =
-    let l = c.loop-i in
-    (l.invariant.0, below_more _ _ l.invariant.1 (c.seven_right.ensures.yes c.if-seven_right.true))
-
-pub returns-else-seven_right : goal.returns-else-seven_right
-returns-else-seven_right c =
-    let l = c.loop-i in
-    let a = c.args in
-    says_no (λ s. c.seven_right.ensures.no c.if-seven_right.false (subst⁻¹ (λ (m : ℕ). SevenAt m a.bytes.now l.i) l.invariant.0.is (sums_seven a.deep (a.deep - 3) (omega arith) a.bytes.now l.i (omega arith) s)))
+pub all-requires-clause-callable : goal.all-requires-clause-callable
+all-requires-clause-callable c =
+    let q = quarter c.requires in
+    grind serving
 
 pub returns : goal.returns
 returns c =
-    let l = c.loop-i in
     let a = c.args in
-    says_yes (sevens_sums a.deep (a.deep - 3) (omega arith) a.bytes.now (λ k h. subst (λ (m : ℕ). SevenAt m a.bytes.now k) l.invariant.0.is (l.invariant.1 k (omega arith))))
+    let s = says_each (SevenAt (quarter_of a.deep) a.bytes.now) _ _ _ c.all.result c.all.ensures.ran (λ x q k. search rules) (λ x q k. search rules) in
+    let h = rw (quarter c.requires).is at s in
+    record {
+      yes = λ e. sevens_sums a.deep (a.deep - 3) (omega arith) a.bytes.now (λ i l. h.yes e i (omega arith) (omega arith));
+      no = λ e t. h.no e (λ i z l. sums_seven a.deep (a.deep - 3) (omega arith) a.bytes.now i (omega arith) t);
+    }

@@ -5,7 +5,6 @@ use Prim.Native.Nat.{ℕ, ◌-◌, ◌^◌, ◌≤◌}
 use native.Mathlib.Omega.{arith}
 use lib.Pow.{pow_mono, pow_pos}
 use Rattle.tables.specs.inner.Says.{Says}
-use Rattle.tables.proofs.Tables.{says_no}
 use Rattle.sums.specs.Sums.{SumsRight}
 use Rattle.sums.specs.inner.Rows.{SumsBetween}
 use Rattle.sums.proofs.Rows.{sums_join}
@@ -27,17 +26,7 @@ returns-then-lowest_three c =
     let a = c.args in
     right a.deep (a.deep - 3) (omega arith) a.bytes.now (c.lowest_three.ensures.yes c.if-lowest_three.true) c.high_rows.ensures
 
-pub returns-then-deep-lt6 : goal.returns-then-deep-lt6
-returns-then-deep-lt6 c =
-    let a = c.args in
-    says_no (λ s. c.lowest_three.ensures.no c.if-lowest_three.false (part a.deep (a.deep - 3) (omega arith) a.bytes.now s))
-
 pub returns-then-lowest_six : goal.returns-then-lowest_six
 returns-then-lowest_six c =
     let a = c.args in
     right a.deep (a.deep - 6) (omega arith) a.bytes.now (c.lowest_six.ensures.yes c.if-lowest_six.true) c.high_rows-then-lowest_six.ensures
-
-pub returns : goal.returns
-returns c =
-    let a = c.args in
-    says_no (λ s. c.lowest_six.ensures.no c.if-lowest_six.false (part a.deep (a.deep - 6) (omega arith) a.bytes.now s))

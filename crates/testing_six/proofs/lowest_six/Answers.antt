@@ -1,30 +1,25 @@
 -- The rows are right where they are over each 64 leaf bits.
-use mathlib.Core.Path.{subst, subst⁻¹}
-use Prim.Native.Nat.{ℕ, ◌-◌}
+use Prim.Native.Nat.{◌-◌}
 use native.Mathlib.Omega.{arith}
-use borrow.Author.Count.{below_none, below_more}
-use Rattle.tables.proofs.Tables.{says_yes, says_no}
+use borrow.Author.Rules.{rules}
+use Rattle.std.proofs.iter.Serving.{serving}
 use Rattle.sums.specs.inner.Rows.{SixAt}
-use Rattle.words.proofs.Rooms.{blocks}
+use Rattle.words.proofs.Rooms.{blocks, blocks_of}
 use Rattle.sums.proofs.LowSix.{six_sums, sums_six}
+use Rattle.tables.proofs.Each.{says_each}
 use Rattle.testing_six.proofs.lowest_six.Goals as goal
 
-pub loop-j-init : goal.loop-j-init
-loop-j-init c = (blocks c.requires.0 c.requires.1, below_none _)
-
-pub loop-j-preserved : goal.loop-j-preserved
-loop-j-preserved c =
-    let l = c.loop-j in
-    (l.invariant.0, below_more _ _ l.invariant.1 (c.six_right.ensures.yes c.if-six_right.true))
-
-pub returns-else-six_right : goal.returns-else-six_right
-returns-else-six_right c =
-    let l = c.loop-j in
-    let a = c.args in
-    says_no (λ s. c.six_right.ensures.no c.if-six_right.false (subst⁻¹ (λ (m : ℕ). SixAt m a.bytes.now l.j) l.invariant.0.is (sums_six a.deep (a.deep - 6) (omega arith) a.bytes.now l.j (omega arith) s)))
+pub all-requires-clause-callable : goal.all-requires-clause-callable
+all-requires-clause-callable c =
+    let b = blocks c.requires.0 c.requires.1 in
+    grind serving
 
 pub returns : goal.returns
 returns c =
-    let l = c.loop-j in
     let a = c.args in
-    says_yes (six_sums a.deep (a.deep - 6) (omega arith) a.bytes.now (λ k h. subst (λ (m : ℕ). SixAt m a.bytes.now k) l.invariant.0.is (l.invariant.1 k (omega arith))))
+    let s = says_each (SixAt (blocks_of a.deep) a.bytes.now) _ _ _ c.all.result c.all.ensures.ran (λ x q k. search rules) (λ x q k. search rules) in
+    let h = rw (blocks c.requires.0 c.requires.1).is at s in
+    record {
+      yes = λ e. six_sums a.deep (a.deep - 6) (omega arith) a.bytes.now (λ j l. h.yes e j (omega arith) (omega arith));
+      no = λ e t. h.no e (λ j z l. sums_six a.deep (a.deep - 6) (omega arith) a.bytes.now j (omega arith) t);
+    }

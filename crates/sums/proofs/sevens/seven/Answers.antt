@@ -61,8 +61,8 @@ last = 0 ∷ 18448 ∷ 18448 ∷ 36896 ∷ 18496 ∷ 36944 ∷ 36944 ∷ 55392 �
 right : (x : ℕ) → x < 256 → Sevens x (get_or first (x % 16) 0 + get_or last (x / 16) 0)
 right x h = sevens_are x _ (every_at (λ x. sevens x (get_or first (x % 16) 0 + get_or last (x / 16) 0)) 256 tt x h)
 
-pub overflow_add-result : goal.overflow_add-result
-overflow_add-result c = omega (arith, (right c.args.x (search rules)).small)
-
 pub returns : goal.returns
 returns c = right c.args.x (search rules)
+
+pub overflow_add-result : goal.overflow_add-result
+overflow_add-result c = omega (arith, (right c.args.x (search rules)).small)
