@@ -19,7 +19,7 @@ fn word_below(bytes: &[u8], deep: usize, q: Node) -> u64
     requires { Room deep bytes.now × (1 ≤ q.0) × (depth_of q.0 + 6 ≡ deep) }
     ensures { CutWord (Cut deep (leaf_bit deep bytes.now)) q.0 result }
 {
-    fields::get_eight(bytes, (1usize << (deep - 2)) + 8 * q.0 as usize)
+    bits::get_bytes::<8>(bytes, (1usize << (deep - 2)) + 8 * q.0 as usize)
 }
 
 // Whether each cut node along the long side of q has none or a cut node across it.
@@ -28,10 +28,7 @@ fn whole_across(bytes: &[u8], deep: usize, q: Node, b: u64) -> bool
     ensures { Says (OuterAcross (Cut deep (leaf_bit deep bytes.now)) q.0) result }
 {
     let e = nodes::edge_of(q);
-    if e == 0 {
-        return true;
-    }
-    mirrored(b, word_below(bytes, deep, Node(e)), 2)
+    e == 0 || mirrored(b, word_below(bytes, deep, Node(e)), 2)
 }
 
 // Whether each cut node along the long side of n, a child of the node that b stands below, has none or a cut node across it.
@@ -52,10 +49,7 @@ fn parent_cut(bytes: &[u8], deep: usize, q: Node, c: u64) -> bool
     requires { Room deep bytes.now × (2 ≤ q.0) × (depth_of q.0 + 6 ≡ deep) × (c < 2) }
     ensures { Says (c ≡ 1 → Cut deep (leaf_bit deep bytes.now) (q.0 / 2)) result }
 {
-    if c == 0 {
-        return true;
-    }
-    is_cut_above(bytes, deep, Node(q.0 / 2), 6)
+    c == 0 || is_cut_above(bytes, deep, Node(q.0 / 2), 6)
 }
 
 // Whether each cut node along the long sides of q and of its children has none or a cut node across it.
@@ -63,12 +57,9 @@ fn sides_follow(bytes: &[u8], deep: usize, q: Node, b: u64) -> bool
     requires { Room deep bytes.now × (2 ≤ q.0) × (depth_of q.0 + 6 ≡ deep) × CutWord (Cut deep (leaf_bit deep bytes.now)) q.0 b }
     ensures { Says (SidesFollow (Cut deep (leaf_bit deep bytes.now)) q.0) result }
 {
-    if whole_across(bytes, deep, q, b) {
-        if half_across(bytes, deep, Node(2 * q.0), b) {
-            return half_across(bytes, deep, Node(2 * q.0 + 1), b);
-        }
-    }
-    false
+    whole_across(bytes, deep, q, b)
+        && half_across(bytes, deep, Node(2 * q.0), b)
+        && half_across(bytes, deep, Node(2 * q.0 + 1), b)
 }
 
 // Whether q and the nodes to five levels below it, where they are cut, may be.
@@ -80,16 +71,11 @@ fn below_follow(bytes: &[u8], deep: usize, q: Node) -> bool
     if b < 2 {
         return true;
     }
-    if parents_beside(b) {
-        if inner_same(b) {
-            if top_same(b) {
-                if parent_cut(bytes, deep, q, (b >> 32) % 2) {
-                    return sides_follow(bytes, deep, q, b);
-                }
-            }
-        }
-    }
-    false
+    parents_beside(b)
+        && inner_same(b)
+        && top_same(b)
+        && parent_cut(bytes, deep, q, (b >> 32) % 2)
+        && sides_follow(bytes, deep, q, b)
 }
 
 // Whether the nodes that the set bits of leaf word j name may be cut.
@@ -97,10 +83,8 @@ fn block_follows(bytes: &[u8], deep: usize, j: usize) -> bool
     requires { Room deep bytes.now × (7 ≤ deep) × (j < 2 ^ (deep - 6)) }
     ensures { Says (BlockFollows deep (leaf_bit deep bytes.now) j) result }
 {
-    if place_follows(bytes, deep, 64 * j) {
-        return below_follow(bytes, deep, Node(((1usize << (deep - 6)) + j) as u32));
-    }
-    false
+    place_follows(bytes, deep, 64 * j)
+        && below_follow(bytes, deep, Node(((1usize << (deep - 6)) + j) as u32))
 }
 
 // Whether all nodes that are cut may be.
@@ -109,13 +93,5 @@ pub fn blocks_follow(bytes: &[u8], deep: usize) -> bool
     ensures { Says (AllFollow deep (leaf_bit deep bytes.now)) result }
 {
     let end = 1usize << (deep - 6);
-    let mut j: usize = 0;
-    while j < end {
-        if block_follows(bytes, deep, j) {
-            j += 1;
-        } else {
-            return false;
-        }
-    }
-    true
+    (0..end).all(|j| block_follows(bytes, deep, j))
 }

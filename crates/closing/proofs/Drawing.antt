@@ -1,5 +1,5 @@
 -- A bit that is put adds the cut that it names, and what is asked for at one node is drawn by two.
-use mathlib.Core.Path.{◌≡◌, refl, sym, ◌∙◌, subst}
+use mathlib.Core.Path.{◌≡◌, refl, ◌∙◌}
 use mathlib.Core.Logic.{◌⊎◌, inl, inr, ⊎_elim, ◌↔◌}
 use mathlib.Core.List.{List}
 use Prim.Native.Nat.{ℕ, ◌+◌, ◌*◌, ◌/◌, ◌^◌, ◌≤◌}
@@ -12,7 +12,6 @@ use Rattle.words.proofs.Rooms.{room_same}
 use Rattle.cuts.specs.Cuts.{Cut}
 use Rattle.cuts.specs.inner.Steps.{CutPlace}
 use Rattle.cuts.specs.inner.Closing.{Asked, Drawn, Draws, OnlyLeaves, CutAlso, CutsDrawn}
-use Rattle.cuts.proofs.Places.{cut_set}
 use Rattle.cuts.proofs.OneBit.{add_iff}
 use Rattle.cuts.proofs.Closing.{draws_none, draws_then}
 
@@ -43,13 +42,6 @@ module _ {D : ℕ} {xs ys : List ℕ} {n p : ℕ} (r : Room D xs) (at : CutPlace
     });
   })
 
--- .. and where it is set, its cut is there
-pub cut_already : {D : ℕ} {xs : List ℕ} {n p : ℕ} → Room D xs → CutPlace D n p → leaf_bit D xs p ≡ 1 → CutAlso D n xs xs
-cut_already {D} {xs} {n} r at s = record {
-  only = only_none D xs;
-  cuts = λ m. (inl, ⊎_elim (λ c. c) (λ e. subst (Cut D (leaf_bit D xs)) (sym e) ((cut_set D (leaf_bit D xs) (omega (arith, r.high)) at).1 s)));
-}
-
 -- ---- one node
 
 module _ {P : ℕ → Type 0} {n : ℕ} where
@@ -62,14 +54,8 @@ module _ {P : ℕ → Type 0} {n : ℕ} where
       back : Drawn P n (n + 1) m → R m
       back w = ⊎_elim (λ e. (g m).1 (inl ((f m).1 (inr (omega (arith, w.from, w.below)))))) (λ e. (g m).1 (inr (omega (arith, w.from, w.below)))) w.is
 
-  pub draws_not : (Asked P n → ⊥) → Draws n (n + 1) P P
-  draws_not z m = (inl, ⊎_elim (λ p. p) (λ w. absurd (z (subst (Asked P) (let e : w.by ≡ n = omega (arith, w.from, w.below) in e) w.asked))))
-
 pub drawn_node : {D n : ℕ} {xs ys zs : List ℕ} → Asked (Cut D (leaf_bit D xs)) n → CutAlso D n xs ys → CutAlso D (n / 2) ys zs → CutsDrawn D n (n + 1) xs zs
 drawn_node a f g = record { only = only_then f.only g.only; cuts = draws_node a f.cuts g.cuts }
-
-pub drawn_not : {D n : ℕ} {xs : List ℕ} → (Asked (Cut D (leaf_bit D xs)) n → ⊥) → CutsDrawn D n (n + 1) xs xs
-drawn_not {D} {n} {xs} z = record { only = only_none D xs; cuts = draws_not z }
 
 -- ---- a level
 

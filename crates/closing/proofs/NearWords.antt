@@ -3,7 +3,6 @@ use mathlib.Core.Path.{◌≡◌, refl, sym, ap, ◌∙◌, subst}
 use mathlib.Core.Logic.{◌≢◌, ◌⊎◌, inl, inr, ⊎_elim, ◌↔◌}
 use mathlib.Core.List.{List}
 use Prim.Native.Nat.{ℕ, zero, suc, ◌+◌, ◌-◌, ◌*◌, ◌/◌, ◌%◌, ◌^◌, ◌≤◌, ◌<◌}
-use native.Mathlib.Nat.{zero-div}
 use native.Mathlib.Decide.{ℕ_discrete, dec_le, dec_lt}
 use native.Mathlib.Omega.{arith}
 use lib.ListN.{length}
@@ -30,9 +29,6 @@ module _ (m : ℕ) (low : 2 ≤ m) where
   -- the outer four: below m's edge neighbour, in the other order
   abbrev Outer : ℕ → ℕ → Type 0
   Outer c d = (edge m ≡ 0 → edge (16 * m + c) ≡ 0) × (edge m ≢ 0 → edge (16 * m + c) ≡ 16 * edge m + d)
-
-  at_four : (n k c : ℕ) → 4 * n + k ≡ 16 * m + c → edge (4 * n + k) ≡ edge (16 * m + c)
-  at_four n k c e = ap edge e
 
   outer_0 : Outer 0 15
   outer_0 =
@@ -290,9 +286,6 @@ near_place {D} {m} {bs} room low d =
     let a : At (D - 5) m = subst (λ x. At x m) (let x : depth_of m ≡ D - 5 = omega arith in x) (at_depth low) in
     record { at = a; inside = omega (arith, bounds room, room.long, near_words D (D - 5) (omega arith), at_below a, pow_next (D - 5)) }
 
--- the word across, where m has an edge neighbour and where it has none
+-- the word across, where m has an edge neighbour
 pub far_some : {P : ℕ → Type 0} {m e y : ℕ} → edge m ≢ 0 → e ≡ edge m → NearWord P e y → FarWord P m y
 far_some {P} {m} {e} {y} z i w = record { names = λ c l. (λ s. (z, subst (λ x. P (16 * x + c)) i ((w.names c l).1 s)), λ p. (w.names c l).0 (subst (λ x. P (16 * x + c)) (sym i) p.1)) }
-
-pub far_none : {P : ℕ → Type 0} {m : ℕ} → edge m ≡ 0 → FarWord P m 0
-far_none z = record { names = λ c l. (λ s. absurd (omega (arith, ap (λ (x : ℕ). x % 2) (zero-div (2 ^ (2 * c + 1))))), λ p. absurd (p.0 z)) }

@@ -18,13 +18,11 @@ fn draw_level(bytes: &mut [u8], deep: usize, d: usize)
     requires { Room deep bytes.old × (1 ≤ d) × (d < deep) }
     ensures { CutsDrawn deep (2 ^ d) (2 ^ (d + 1)) bytes.old bytes.new }
 {
-    if d + 1 == deep {
-        if 6 <= deep {
-            draw_words(bytes, deep, d);
-            return;
-        }
+    if d + 1 == deep && 6 <= deep {
+        draw_words(bytes, deep, d);
+    } else {
+        draw_nodes(bytes, deep, d);
     }
-    draw_nodes(bytes, deep, d);
 }
 
 // Cuts node 1 and what all cuts ask for.
@@ -33,9 +31,7 @@ pub fn close_cuts(bytes: &mut [u8], deep: usize)
     ensures { CutsClosed deep bytes.old bytes.new }
 {
     cut_above(bytes, deep, Node(1), deep - 1);
-    let mut d = deep;
-    while 1 < d {
-        d -= 1;
+    for d in (1..deep).rev() {
         draw_level(bytes, deep, d);
     }
 }

@@ -30,10 +30,7 @@ fn is_asked(bytes: &[u8], deep: usize, n: Node, levels: usize) -> bool
         return true;
     }
     let e = nodes::edge_of(n);
-    if e == 0 {
-        return false;
-    }
-    is_cut_above(bytes, deep, Node(e), levels)
+    e != 0 && is_cut_above(bytes, deep, Node(e), levels)
 }
 
 // Cuts node n and its parent, where n is to be cut.
@@ -53,10 +50,7 @@ pub fn draw_nodes(bytes: &mut [u8], deep: usize, d: usize)
     ensures { CutsDrawn deep (2 ^ d) (2 ^ (d + 1)) bytes.old bytes.new }
 {
     let levels = deep - 1 - d;
-    let end = 2u32 << d;
-    let mut n = 1u32 << d;
-    while n < end {
+    for n in (1u32 << d)..(2u32 << d) {
         draw_node(bytes, deep, Node(n), levels);
-        n += 1;
     }
 }

@@ -47,7 +47,7 @@ fn far_word(bytes: &[u8], deep: usize, m: Node) -> u32
     if e == 0 {
         return 0;
     }
-    fields::get_four(bytes, word_place(deep, Node(e)))
+    bits::get_bytes::<4>(bytes, word_place(deep, Node(e))) as u32
 }
 
 // Draws the sixteen nodes four levels below m.
@@ -56,9 +56,9 @@ fn draw_word(bytes: &mut [u8], deep: usize, m: Node)
     ensures { CutsDrawn deep (16 * m.0) (16 * m.0 + 16) bytes.old bytes.new }
 {
     let i = word_place(deep, m);
-    let b = fields::get_four(bytes, i);
+    let b = bits::get_bytes::<4>(bytes, i) as u32;
     let y = far_word(bytes, deep, m);
-    fields::put_four(bytes, i, drawn(b, y));
+    bits::put_bytes::<4>(bytes, i, u64::from(drawn(b, y)));
 }
 
 // All nodes of depth d, which is deep - 1.
@@ -66,10 +66,7 @@ pub fn draw_words(bytes: &mut [u8], deep: usize, d: usize)
     requires { Room deep bytes.old × (6 ≤ deep) × (d + 1 ≡ deep) }
     ensures { CutsDrawn deep (2 ^ d) (2 ^ (d + 1)) bytes.old bytes.new }
 {
-    let end = 2u32 << (d - 4);
-    let mut m = 1u32 << (d - 4);
-    while m < end {
+    for m in (1u32 << (d - 4))..(2u32 << (d - 4)) {
         draw_word(bytes, deep, Node(m));
-        m += 1;
     }
 }

@@ -68,10 +68,6 @@ pub record Closing (P C : ℕ → Type 0) (n : ℕ) : Type 0 where
   pub least : (r : ℕ → Bool) → GoodCuts (λ m. r m ≡ true) → ((m : ℕ) → P m → r m ≡ true) → (m : ℕ) → C m → r m ≡ true
   pub follow : (m : ℕ) → n ≤ m → C m → Follows C m
 
--- at first P alone is cut, and nothing from n on
-pub closing_start : {P : ℕ → Type 0} {n : ℕ} → ((m : ℕ) → n ≤ m → P m → ⊥) → Closing P P n
-closing_start none = record { holds = λ m p. p; least = λ r G sub. sub; follow = λ m h q. absurd (none m h q) }
-
 -- a good set holds what is drawn from it
 asked_good : {Q : ℕ → Type 0} → GoodCuts Q → (n : ℕ) → Asked Q n → Q n
 asked_good {Q} G n = ⊎_elim (λ q. q) (λ w. subst Q (edge_mutual n w.0) (G.over (edge n) (node w.0) w.1 (λ e. omega (arith, edge_mutual n w.0, edge_low n w.0))))

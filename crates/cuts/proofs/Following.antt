@@ -1,11 +1,7 @@
 -- Cuts are good where node 1 is cut and a walk over the places finds no fault: each cut is named by a place.
 use mathlib.Core.Path.{◌≡◌, refl, subst}
-use mathlib.Core.Bool.{Bool}
-use mathlib.Core.Logic.{◌≢◌}
-use Prim.Native.Nat.{ℕ, ◌/◌, ◌^◌, ◌≤◌, ◌<◌}
+use Prim.Native.Nat.{ℕ, ◌^◌, ◌<◌}
 use native.Mathlib.Omega.{arith}
-use Rattle.nodes.specs.Neighbours.{edge}
-use Rattle.tables.specs.inner.Says.{Says}
 use Rattle.cuts.specs.Cuts.{named, Cut, GoodCuts}
 use Rattle.cuts.specs.inner.Steps.{Follows}
 
@@ -16,12 +12,6 @@ good_follows {P} {n} G p = record { up = λ h. G.up n h p; over = λ h. G.over n
 module _ {P : ℕ → Type 0} {n : ℕ} where
   pub first_follows : n < 2 → Follows P n
   first_follows h = record { up = λ l. absurd (omega arith); over = λ l. absurd (omega arith) }
-
-  pub says_follows : {r : Bool} → P (n / 2) → 2 ≤ n → Says (edge n ≢ 0 → P (edge n)) r → Says (Follows P n) r
-  says_follows p l s = record {
-    yes = λ t. record { up = λ _. p; over = λ _. s.yes t };
-    no = λ t f. s.no t (f.over l);
-  }
 
 module _ (D : ℕ) (f : ℕ → ℕ) where
   pub follows_good : Cut D f 1 → ((p : ℕ) → 0 < p → p < 2 ^ D → f p ≡ 1 → Follows (Cut D f) (named D p)) → GoodCuts (Cut D f)

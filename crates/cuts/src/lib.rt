@@ -43,10 +43,7 @@ pub fn is_cut(bytes: &[u8], deep: usize, n: Node) -> bool
     ensures { Says (Cut deep (leaf_bit deep bytes.now) n.0) result }
 {
     let d = nodes::depth(n) as usize;
-    if d == deep {
-        return false;
-    }
-    is_cut_above(bytes, deep, n, deep - 1 - d)
+    d < deep && is_cut_above(bytes, deep, n, deep - 1 - d)
 }
 
 // The node that leaf bit p names: with t trailing zeros in p, (2^D + p) / 2^t is a right child, and this its parent.
@@ -63,10 +60,7 @@ fn across_cut(bytes: &[u8], deep: usize, n: Node, levels: usize) -> bool
     ensures { Says (AcrossCut (Cut deep (leaf_bit deep bytes.now)) n.0) result }
 {
     let e = nodes::edge_of(n);
-    if e == 0 {
-        return true;
-    }
-    is_cut_above(bytes, deep, Node(e), levels)
+    e == 0 || is_cut_above(bytes, deep, Node(e), levels)
 }
 
 // Whether n, whose children stand `levels` above depth deep, may be cut: its parent is, and its edge neighbour, where that is a node.
@@ -77,10 +71,7 @@ fn may_be_cut(bytes: &[u8], deep: usize, n: Node, levels: usize) -> bool
     if n.0 < 2 {
         return true;
     }
-    if is_cut_above(bytes, deep, Node(n.0 / 2), levels + 1) {
-        return across_cut(bytes, deep, n, levels);
-    }
-    false
+    is_cut_above(bytes, deep, Node(n.0 / 2), levels + 1) && across_cut(bytes, deep, n, levels)
 }
 
 // Whether the node that leaf bit p names, where p is not 0 and the bit is set, may be cut.
@@ -88,12 +79,9 @@ pub fn place_follows(bytes: &[u8], deep: usize, p: usize) -> bool
     requires { Room deep bytes.now × (p < 2 ^ deep) }
     ensures { Says (PlaceFollows deep (leaf_bit deep bytes.now) p) result }
 {
-    if p == 0 {
+    if p == 0 || words::leaf_bit(bytes, deep, p) != 1 {
         return true;
     }
-    if words::leaf_bit(bytes, deep, p) == 1 {
-        let t = u32::trailing_zeros(p as u32);
-        return may_be_cut(bytes, deep, named_node(deep, p, t), t as usize);
-    }
-    true
+    let t = (p as u32).trailing_zeros();
+    may_be_cut(bytes, deep, named_node(deep, p, t), t as usize)
 }

@@ -18,11 +18,12 @@ pub fn cuts_good(bytes: &[u8], deep: usize) -> bool
     requires { Room deep bytes.now }
     ensures { Says (GoodCuts (Cut deep (leaf_bit deep bytes.now))) result }
 {
-    if is_cut(bytes, deep, Node(1)) {
-        if deep < 7 {
-            return shallow_follow(bytes, deep);
-        }
-        return blocks_follow(bytes, deep);
+    if !is_cut(bytes, deep, Node(1)) {
+        return false;
     }
-    false
+    if deep < 7 {
+        shallow_follow(bytes, deep)
+    } else {
+        blocks_follow(bytes, deep)
+    }
 }

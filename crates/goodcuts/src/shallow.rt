@@ -17,9 +17,9 @@ fn leaves_of(bytes: &[u8], deep: usize) -> u64
     ensures { result ≡ field bytes.now (3 * 2 ^ deep) (2 ^ deep) }
 {
     if deep == 3 {
-        return bits::get_byte(bytes, 3) as u64;
+        return bits::get_bytes::<1>(bytes, 3);
     }
-    fields::get_eight(bytes, (1usize << (deep - 1)) - 8) >> (64 - (1usize << deep))
+    bits::get_bytes::<8>(bytes, (1usize << (deep - 1)) - 8) >> (64 - (1usize << deep))
 }
 
 // The 2^deep bits of x, each the first of 2^(6-deep). Each turn halves the words of w bits, and moves the upper halves on to the middle
@@ -46,14 +46,7 @@ fn spread(x: u64, deep: usize) -> u64
 fn root_follows(b: u64) -> bool
     ensures { Says (RootFollows b) result }
 {
-    if parents_beside(b) {
-        if inner_same(b) {
-            if mirrored(b, b >> 32, 1) {
-                return mirrored(b >> 32, b, 1);
-            }
-        }
-    }
-    false
+    parents_beside(b) && inner_same(b) && mirrored(b, b >> 32, 1) && mirrored(b >> 32, b, 1)
 }
 
 // Whether all nodes that are cut may be. Where node 1 alone is cut, nothing is asked.

@@ -72,3 +72,5 @@ ones_32 = record { is = refl; some = omega arith }
 pub ones_64 : Ones 64 1
 unfolding abreast
 ones_64 = record { is = refl; some = omega arith }
+
+pub ruleset masks = (ones_4, ones_8, ones_16, ones_32, ones_64)

@@ -29,54 +29,39 @@ fn beside(x: u64, mask: u64, s: u32) -> bool
     requires { Ones (4 * s) mask × (s ≤ 16) }
     ensures { Says (Beside (64 / (4 * s)) s x) result }
 {
-    if under(x, mask, 4 * s, s, 2 * s) {
-        return under(x, mask, 4 * s, 3 * s, 2 * s);
-    }
-    false
+    under(x, mask, 4 * s, s, 2 * s) && under(x, mask, 4 * s, 3 * s, 2 * s)
 }
 
 // Whether each cut below q that b names has its parent's bit set beside it.
+#[tactic(auto, using(crate::proofs::Masks::masks))]
 pub fn parents_beside(b: u64) -> bool
     ensures { Says (ParentsBeside b) result }
 {
-    if beside(b, 0x1111_1111_1111_1111, 1) {
-        if beside(b, 0x0101_0101_0101_0101, 2) {
-            if beside(b, 0x0001_0001_0001_0001, 4) {
-                if beside(b, 0x0000_0001_0000_0001, 8) {
-                    return beside(b, 1, 16);
-                }
-            }
-        }
-    }
-    false
+    beside(b, 0x1111_1111_1111_1111, 1)
+        && beside(b, 0x0101_0101_0101_0101, 2)
+        && beside(b, 0x0001_0001_0001_0001, 4)
+        && beside(b, 0x0000_0001_0000_0001, 8)
+        && beside(b, 1, 16)
 }
 
 // Whether of two nodes that stand across from each other below a node below q both are cut or none.
+#[tactic(auto, using(crate::proofs::Masks::masks))]
 pub fn inner_same(b: u64) -> bool
     ensures { Says (InnerSame b) result }
 {
-    if same(b, 0x0101_0101_0101_0101, 8, 3, 5) {
-        if same(b, 0x0001_0001_0001_0001, 16, 6, 10) {
-            if same(b, 0x0000_0001_0000_0001, 32, 12, 20) {
-                if same(b, 0x0000_0001_0000_0001, 32, 9, 23) {
-                    return same(b, 0x0000_0001_0000_0001, 32, 15, 17);
-                }
-            }
-        }
-    }
-    false
+    same(b, 0x0101_0101_0101_0101, 8, 3, 5)
+        && same(b, 0x0001_0001_0001_0001, 16, 6, 10)
+        && same(b, 0x0000_0001_0000_0001, 32, 12, 20)
+        && same(b, 0x0000_0001_0000_0001, 32, 9, 23)
+        && same(b, 0x0000_0001_0000_0001, 32, 15, 17)
 }
 
 // Whether of two that stand so below q itself both are cut or none.
+#[tactic(auto, using(crate::proofs::Masks::masks))]
 pub fn top_same(b: u64) -> bool
     ensures { Says (TopSame b) result }
 {
-    if same(b, 1, 64, 24, 40) {
-        if same(b, 1, 64, 18, 46) {
-            return same(b, 1, 64, 30, 34);
-        }
-    }
-    false
+    same(b, 1, 64, 24, 40) && same(b, 1, 64, 18, 46) && same(b, 1, 64, 30, 34)
 }
 
 // Whether bit a of w is set only where bit c of x is, and bit c of w only where bit a of x is.
@@ -84,10 +69,7 @@ fn crossed(w: u64, x: u64, a: u32, c: u32) -> bool
     requires { (a < 64) × (c < 64) }
     ensures { Says (Crossed w x a c) result }
 {
-    if (x >> c) % 2 < (w >> a) % 2 {
-        return false;
-    }
-    (w >> c) % 2 <= (x >> a) % 2
+    (w >> a) % 2 <= (x >> c) % 2 && (w >> c) % 2 <= (x >> a) % 2
 }
 
 // Whether x, the leaf word below the edge neighbour e of m, has what w, the word below m, asks for across m's long side: m asks for e, 4m
@@ -96,12 +78,8 @@ pub fn mirrored(w: u64, x: u64, s: u32) -> bool
     requires { s ≤ 2 }
     ensures { Says (Mirrored s w x) result }
 {
-    if crossed(w, x, 16 * s, 16 * s) {
-        if crossed(w, x, 4 * s, 28 * s) {
-            if crossed(w, x, s, 31 * s) {
-                return crossed(w, x, 7 * s, 25 * s);
-            }
-        }
-    }
-    false
+    crossed(w, x, 16 * s, 16 * s)
+        && crossed(w, x, 4 * s, 28 * s)
+        && crossed(w, x, s, 31 * s)
+        && crossed(w, x, 7 * s, 25 * s)
 }

@@ -2,7 +2,7 @@
 use mathlib.Core.Path.{◌≡◌, sym, ◌∙◌, ap, subst}
 use Prim.Native.Nat.{ℕ, suc, ◌+◌, ◌-◌, ◌*◌, ◌/◌, ◌%◌, ◌^◌, ◌≤◌, ◌<◌}
 use native.Mathlib.Omega.{arith}
-use native.Mathlib.Nat.{div-one, pow-suc, le-div_iff_mul-le, div-lt_iff_lt-mul}
+use native.Mathlib.Nat.{pow-suc, le-div_iff_mul-le, div-lt_iff_lt-mul}
 use lib.Pow.{shr-shr, shr_le, pow_pos}
 use Rattle.nodes.specs.declared.triples.Triple.{Triple}
 use Rattle.nodes.specs.Depth.{depth_of}
@@ -21,10 +21,6 @@ half k l z = let e : l - 1 + 1 ≡ l = omega arith in sym (shr-shr k (l - 1) 1 �
 
 pub above_next : {k l : ℕ} → 0 < l → Above k l → Above k (l - 1)
 above_next {k} {l} z a = record { fits = omega arith; node = omega (arith, half k l z) }
-
--- a descent ends at the node
-pub own : (k l : ℕ) → l ≡ 0 → k / 2 ^ l ≡ k
-own k l e = ap (λ i. k / 2 ^ i) e ∙ div-one k
 
 -- and starts at depth 1
 module _ (n d : ℕ) (p : 2 ≤ n) (h : n < 2 ^ 32) (e : d ≡ depth_of n) where
@@ -64,23 +60,20 @@ triple_start n d t p h e f =
     record { above = a; is = f ∙ sym (first_triple_lem _ a.node (start_low n d p h e)) }
 
 module _ {k l : ℕ} {t : Triple} (z : 0 < l) (a : TripleAt k l t) where
-  pub triple_fits : k < 2 ^ 18 → (k / 2 ^ l < 2 ^ 31) × (t.left < 2 ^ 31) × (t.right < 2 ^ 31) × (t.edge < 2 ^ 31)
+  pub triple_fits : k < 2 ^ 18 → (k / 2 ^ (l - 1) / 2 < 2 ^ 31) × (t.left < 2 ^ 31) × (t.right < 2 ^ 31) × (t.edge < 2 ^ 31)
   triple_fits h =
       let b : k / 2 ^ l < 2 ^ 18 = omega (arith, shr_le k l) in
       let f : Below (2 ^ 18) t = rw a.is (neighbours_below _ 17 a.above.node b) in
-      omega arith
+      omega (arith, half k l z)
 
-  pub triple_left : {r : Triple} → r ≡ left_triple t (k / 2 ^ l) → k / 2 ^ (l - 1) % 2 ≡ 0 → TripleAt k (l - 1) r
+  pub triple_left : {r : Triple} → r ≡ left_triple t (k / 2 ^ (l - 1) / 2) → k / 2 ^ (l - 1) % 2 ≡ 0 → TripleAt k (l - 1) r
   triple_left f b = record {
     above = above_next z a.above;
-    is = f ∙ ap (λ x. left_triple x (k / 2 ^ l)) a.is ∙ sym (left_triple_lem _ a.above.node) ∙ ap neighbours_of (to_even k l z b);
+    is = f ∙ ap (left_triple t) (sym (half k l z)) ∙ ap (λ x. left_triple x (k / 2 ^ l)) a.is ∙ sym (left_triple_lem _ a.above.node) ∙ ap neighbours_of (to_even k l z b);
   }
 
-  pub triple_right : {r : Triple} → r ≡ right_triple t (k / 2 ^ l) → (k / 2 ^ (l - 1) % 2 ≡ 0 → ⊥) → TripleAt k (l - 1) r
+  pub triple_right : {r : Triple} → r ≡ right_triple t (k / 2 ^ (l - 1) / 2) → (k / 2 ^ (l - 1) % 2 ≡ 0 → ⊥) → TripleAt k (l - 1) r
   triple_right f b = record {
     above = above_next z a.above;
-    is = f ∙ ap (λ x. right_triple x (k / 2 ^ l)) a.is ∙ sym (right_triple_lem _ a.above.node) ∙ ap neighbours_of (to_odd k l z b);
+    is = f ∙ ap (right_triple t) (sym (half k l z)) ∙ ap (λ x. right_triple x (k / 2 ^ l)) a.is ∙ sym (right_triple_lem _ a.above.node) ∙ ap neighbours_of (to_odd k l z b);
   }
-
-pub triple_end : {k l : ℕ} {t : Triple} → l ≡ 0 → TripleAt k l t → t ≡ neighbours_of k
-triple_end {k} {l} z a = a.is ∙ ap neighbours_of (own k l z)

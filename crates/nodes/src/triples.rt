@@ -4,8 +4,8 @@ ghost use Rattle.nodes.specs.Neighbours.{right_child, left_triple, right_triple,
 
 use crate::numbers::{Node, depth};
 
-// Left, right and edge; 0 is none.
-#[derive(Clone, Copy)]
+// Left, right and edge; 0 is none, as in the numbers that go out.
+#[derive(Clone, Copy, Debug, PartialEq, Eq, Hash)]
 pub struct Triple {
     pub left: u32,
     pub right: u32,
@@ -24,7 +24,7 @@ fn right_child_of(x: u32) -> u32
 }
 
 impl Triple {
-    // From n's neighbours to those of its left child.
+    // From n's neighbours to those of its left child. Each child has a method, as each has a rule in the scope document.
     pub fn left_child(self, n: Node) -> Triple
         requires { (n.0 < 2 ^ 31) × (self.right < 2 ^ 31) × (self.edge < 2 ^ 31) }
         ensures { result ≡ left_triple self n.0 }
@@ -57,20 +57,20 @@ pub fn triple_of(n: Node) -> Triple
     ensures { result ≡ neighbours_of n.0 }
 {
     let k = n.0;
-    let mut levels = depth(n) - 1;
+    let levels = depth(n) - 1;
     let mut t = Triple {
         left: 0,
         right: 0,
         edge: 5 - (k >> levels),
     };
-    while levels > 0 {
-        let up = Node(k >> levels);
-        levels -= 1;
-        if (k >> levels) % 2 == 0 {
-            t = t.left_child(up);
+    for level in (0..levels).rev() {
+        let child = k >> level;
+        let up = Node(child / 2);
+        t = if child % 2 == 0 {
+            t.left_child(up)
         } else {
-            t = t.right_child(up);
-        }
+            t.right_child(up)
+        };
     }
     t
 }

@@ -12,11 +12,13 @@ use Rattle.bits.proofs.Digitwise.{and_digit}
 use Rattle.bits.proofs.Laws.{run-digit, bit_lt, field_lt, le_or_lt, length-put_field, bit_in, bit_out}
 use lib.Bits.{bit_and}
 use lib.Dec.{eqb}
+use lib.ListN.{length}
 use lib.Pow.{pow_mono}
 use Rattle.tables.specs.inner.Says.{Says}
 use Rattle.tables.proofs.Tables.{says_equal}
 use Rattle.words.specs.Words.{leaf_bit}
-use Rattle.words.proofs.Rooms.{bounds, whole_bytes, quarter_of, quarter}
+use Rattle.words.specs.inner.Working.{Room}
+use Rattle.words.proofs.Rooms.{Quarter, bounds, whole_bytes}
 use Rattle.pins.specs.Pins.{pin_place, pin_bit, PinsOnLeaves}
 use Rattle.pins.specs.inner.Steps.{PinRoom, PinsInBytes, ByteOnLeaves, ClearedBetween, PinsCleared}
 use Rattle.pins.proofs.PinBits.{pin_lt}
@@ -58,11 +60,19 @@ module _ (D : ℕ) (low : 3 ≤ D) (bs : List ℕ) where
 -- ---- by the number of bytes
 
 -- the number of bytes, as the code computes it
-pub in_bytes : {D : ℕ} {bs : List ℕ} → PinRoom D bs → PinsInBytes D (quarter_of D) bs
+abbrev pub eighth_of : ℕ → ℕ
+eighth_of D = 1 * 2 ^ D % 2 ^ 64 / 8
+
+pub eighth : {D : ℕ} {bs : List ℕ} → Room D bs → Quarter D (length bs) (eighth_of D)
+eighth r =
+    let b = bounds r in
+    record { is = omega (arith, b); some = omega (arith, b); small = omega (arith, b); inside = omega (arith, b, r.long) }
+
+pub in_bytes : {D : ℕ} {bs : List ℕ} → PinRoom D bs → PinsInBytes D (eighth_of D) bs
 in_bytes r =
-    let q = quarter r.words in
+    let q = eighth r.words in
     let b = bounds r.words in
-    record { whole = omega arith; small = q.small; room = omega arith }
+    record { whole = omega arith; small = q.small; room = omega (arith, r.pins) }
 
 module _ {D n : ℕ} {bs : List ℕ} (w : PinsInBytes D n bs) where
   byte_digit : (b j i : ℕ) → i < 8 → digit (field bs (8 * (b * n + j)) 8) i ≡ bit bs (b * 2 ^ D + (8 * j + i))

@@ -9,24 +9,21 @@ fn byte_on_leaves(bytes: &[u8], deep: usize, n: usize, j: usize) -> bool
     requires { PinRoom deep bytes.now × (n ≡ 2 ^ (deep - 3)) × (j < n) }
     ensures { Says (ByteOnLeaves deep bytes.now j) result }
 {
-    let leaves = bits::get_byte(bytes, 3 * n + j);
-    let pins = bits::get_byte(bytes, 4 * n + j);
+    let leaves = bits::get_bytes::<1>(bytes, 3 * n + j);
+    let pins = bits::get_bytes::<1>(bytes, 4 * n + j);
     pins & leaves == pins
 }
 
-// Whether no pin bit is set where no leaf bit is. It looks at every byte: without a jump out, the compiler tests many at once.
+// Whether no pin bit is set where no leaf bit is. It looks at every byte: without a jump out, the compiler tests many at once
+// (and by a division, as `keep_on_leaves` says).
 pub fn pins_on_leaves(bytes: &[u8], deep: usize) -> bool
     requires { PinRoom deep bytes.now }
     ensures { Says (PinsOnLeaves deep bytes.now) result }
 {
-    let n = 1usize << (deep - 3);
+    let n = (1usize << deep) / 8;
     let mut on = true;
-    let mut j: usize = 0;
-    while j != n {
-        if !byte_on_leaves(bytes, deep, n, j) {
-            on = false;
-        }
-        j += 1;
+    for j in 0..n {
+        on &= byte_on_leaves(bytes, deep, n, j);
     }
     on
 }

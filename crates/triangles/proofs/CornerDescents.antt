@@ -2,7 +2,7 @@
 use mathlib.Core.Path.{◌≡◌, sym, ◌∙◌, ap}
 use Prim.Native.Nat.{ℕ, ◌-◌, ◌/◌, ◌%◌, ◌^◌, ◌≤◌, ◌<◌}
 use Rattle.nodes.specs.Depth.{depth_of}
-use Rattle.nodes.proofs.Descents.{Above, above_next, own, start_above, start_low, to_even, to_odd}
+use Rattle.nodes.proofs.Descents.{Above, above_next, start_above, start_low, to_even, to_odd}
 use Rattle.triangles.specs.Corners.{Triangle, InPanel, first_triangle, left_triangle, right_triangle, corners_of}
 use Rattle.triangles.proofs.Cornering.{first_triangle_lem, left_triangle_lem, right_triangle_lem, in_panel}
 
@@ -31,6 +31,3 @@ module _ {k l : ℕ} {t : Triangle} (z : 0 < l) (a : CornersAt k l t) where
     above = above_next z a.above;
     is = f ∙ ap right_triangle a.is ∙ sym (right_triangle_lem _ a.above.node) ∙ ap corners_of (to_odd k l z b);
   }
-
-pub corners_end : {k l : ℕ} {t : Triangle} → l ≡ 0 → CornersAt k l t → t ≡ corners_of k
-corners_end {k} {l} z a = a.is ∙ ap corners_of (own k l z)

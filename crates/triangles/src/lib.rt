@@ -15,7 +15,7 @@ fn middle(a: u32, c: u32) -> u32
     (a + c) / 2
 }
 
-// From a triangle to its left child: (A, M, B).
+// From a triangle to its left child: (A, M, B). Each child has a function, as each has a rule in the scope document.
 pub fn left_corners(t: [[u32; 2]; 3]) -> [[u32; 2]; 3]
     requires { InPanel t }
     ensures { result ≡ left_triangle t }
@@ -51,17 +51,14 @@ pub fn corners_of(n: Node) -> [[u32; 2]; 3]
     ensures { result ≡ corners_of n.0 }
 {
     let k = n.0;
-    let mut levels = nodes::depth(n) - 1;
+    let levels = nodes::depth(n) - 1;
     let mut t = first_corners(Node(k >> levels));
-    while levels > 0 {
-        levels -= 1;
-        if (k >> levels) % 2 == 0 {
-            let next = left_corners(t);
-            t = next;
+    for level in (0..levels).rev() {
+        t = if (k >> level) % 2 == 0 {
+            left_corners(t)
         } else {
-            let next = right_corners(t);
-            t = next;
-        }
+            right_corners(t)
+        };
     }
     t
 }

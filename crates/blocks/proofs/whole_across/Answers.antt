@@ -21,7 +21,7 @@ edge_of-e-requires c = omega (arith, below_depth c.args.q.0 16 (omega arith) (om
 
 pub returns-then-e-eq0 : goal.returns-then-e-eq0
 returns-then-e-eq0 c =
-    says_yes (border_across c.requires.1 (outer_whole c.requires.3) (sym c.edge_of-e.ensures ∙ c.if-e-eq0.true))
+    rw c.if-e-eq0.true (says_yes (border_across c.requires.1 (outer_whole c.requires.3) (sym c.edge_of-e.ensures ∙ c.if-e-eq0.true)))
 
 -- the edge neighbour is a node
 some : (c : (Lts.Else1 Tie.the-claims Reads.Pre Reads.Post)) → edge c.args.q.0 ≢ 0
@@ -31,8 +31,8 @@ pub word_below-requires : goal.word_below-requires
 word_below-requires c =
     (c.requires.0, omega arith, omega (arith, ap depth_of c.edge_of-e.ensures, edge_depth c.args.q.0 (some c.before)))
 
-pub returns : goal.returns
-returns c =
+pub returns-else-e-eq0 : goal.returns-else-e-eq0
+returns-else-e-eq0 c =
     let m = c.mirrored.ensures in
     let y = subst (λ n. CutWord (Cut c.args.deep (leaf_bit c.args.deep c.args.bytes.now)) n c.word_below.result) c.edge_of-e.ensures c.word_below.ensures in
     record {

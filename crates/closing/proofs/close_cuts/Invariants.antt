@@ -7,7 +7,4 @@ use Rattle.closing.proofs.close_cuts.Given as goal
 
 abbrev pub invariant-loop-d : goal.invariant-loop-d
 invariant-loop-d l =
-    (1 ≤ l.d) × (l.d ≤ l.deep) × OnlyLeaves l.deep l.initial.bytes l.bytes × Closing (Cut l.deep (leaf_bit l.deep l.initial.bytes)) (Cut l.deep (leaf_bit l.deep l.bytes)) (2 ^ l.d)
-
-abbrev pub decreases-loop-d : goal.decreases-loop-d
-decreases-loop-d l = l.d
+    (1 ≤ l.d) × OnlyLeaves l.deep l.initial.bytes l.bytes × Closing (Cut l.deep (leaf_bit l.deep l.initial.bytes)) (Cut l.deep (leaf_bit l.deep l.bytes)) (2 ^ l.d)

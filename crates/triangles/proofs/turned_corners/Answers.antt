@@ -9,11 +9,6 @@ use Rattle.triangles.proofs.turned_corners.Goals as goal
 
 pub returns-then-depth-eq0 : goal.returns-then-depth-eq0
 returns-then-depth-eq0 c =
-    let a = c in
-    let e : depth_of a.args.n.0 % 2 ≡ 0 = omega arith in
-    rw e (ap (turned 0) (told_whole _ a.corners_of-t.result _ a.corners_of-t.type_inv ∙ a.corners_of-t.ensures))
-
-pub returns : goal.returns
-returns c =
-    let e : depth_of c.args.n.0 % 2 ≡ 1 = omega arith in
-    rw e c.corners_of.ensures
+    let t = c.corners_of-t in
+    let e : depth_of c.args.n.0 % 2 ≡ 0 = omega arith in
+    rw e (ap (turned 0) (told_whole _ t.result _ t.type_inv ∙ t.ensures))

@@ -35,12 +35,3 @@ loop-m-preserved c =
     let m = c.loop-m.m in
     let next = drawn_then c.args.d (omega arith) (omega (arith, i.0, i.1)) (omega arith) (omega (arith, i.0)) i.3 c.draw_word.ensures in
     (i.0, omega (arith, i.1), omega arith, subst (λ (n : ℕ). CutsDrawn c.args.deep (2 ^ c.args.d) n c.args.bytes.now c.draw_word.new.bytes) (let e : 16 * m + 16 ≡ 16 * (m + 1) = omega arith in e) next)
-
-pub returns : goal.returns
-returns c =
-    let a = c.args in
-    let i = c.loop-m.invariant in
-    subst (λ (n : ℕ). CutsDrawn a.deep (2 ^ a.d) n a.bytes.now c.loop-m.bytes) (let e : 16 * c.loop-m.m ≡ 2 ^ (a.d + 1) = omega (arith, i.0, i.2) in e) i.3
-
-pub overflow_sub-end : goal.overflow_sub-end
-overflow_sub-end c = omega (arith, c.requires.1, c.requires.2)

@@ -10,7 +10,4 @@ pub record Ends (d end : ℕ) : Type 0 where
   pub last : 2 ^ (d + 1) ≡ 32 * 2 ^ (d - 4)
 
 abbrev pub invariant-loop-m : goal.invariant-loop-m
-invariant-loop-m l = Ends l.d l.end × (2 ^ (l.d - 4) ≤ l.m) × (l.m ≤ l.end) × CutsDrawn l.deep (2 ^ l.d) (16 * l.m) l.initial.bytes l.bytes
-
-abbrev pub decreases-loop-m : goal.decreases-loop-m
-decreases-loop-m l = l.end - l.m
+invariant-loop-m l = Ends l.d l.m-end × (2 ^ (l.d - 4) ≤ l.m) × (l.m ≤ l.m-end) × CutsDrawn l.deep (2 ^ l.d) (16 * l.m) l.initial.bytes l.bytes

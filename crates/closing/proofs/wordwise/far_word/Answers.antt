@@ -34,12 +34,12 @@ near m room is z d = near_place room (omega arith) (same_depth m is z d)
 pub word_place-requires : goal.word_place-requires
 word_place-requires c = (c.requires.0.high, omega arith, same_depth c.args.m.0 c.edge_of-e.ensures c.if-e-eq0.false c.requires.2)
 
-pub get_four-requires : goal.get_four-requires
-get_four-requires c = omega (arith, c.word_place.ensures, near c.args.m.0 c.requires.0 c.edge_of-e.ensures c.if-e-eq0.false c.requires.2)
+pub get_bytes-requires : goal.get_bytes-requires
+get_bytes-requires c = omega (arith, c.word_place.ensures, near c.args.m.0 c.requires.0 c.edge_of-e.ensures c.if-e-eq0.false c.requires.2)
 
 pub returns : goal.returns
 returns c =
     let a = c.args in
     let P = Cut a.deep (leaf_bit a.deep a.bytes.now) in
-    far_some (some c.args.m.0 c.edge_of-e.ensures c.if-e-eq0.false) c.edge_of-e.ensures (subst (NearWord P c.edge_of-e.result) (sym (c.get_four.ensures ∙ ap (λ (i : ℕ). field a.bytes.now (8 * i) 32) c.word_place.ensures))
+    far_some (some c.args.m.0 c.edge_of-e.ensures c.if-e-eq0.false) c.edge_of-e.ensures (subst (NearWord P c.edge_of-e.result) (sym (c.get_bytes.ensures.value ∙ ap (λ (i : ℕ). field a.bytes.now (8 * i) 32) c.word_place.ensures))
     (near_word a.deep (a.deep - 5) c.edge_of-e.result (omega arith) c.requires.0.high (near c.args.m.0 c.requires.0 c.edge_of-e.ensures c.if-e-eq0.false c.requires.2).at a.bytes.now))

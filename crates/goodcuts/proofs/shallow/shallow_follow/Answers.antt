@@ -13,9 +13,6 @@ use Rattle.leafwords.proofs.LeafWords.{root_all, all_root}
 use Rattle.goodcuts.proofs.Spreading.{root_names, alone, alone_follows}
 use Rattle.goodcuts.proofs.shallow.shallow_follow.Goals as goal
 
-pub overflow_sub-deep-2 : goal.overflow_sub-deep-2
-overflow_sub-deep-2 c = omega (arith, alone c.requires.1)
-
 pub overflow_shl-deep-2 : goal.overflow_shl-deep-2
 overflow_shl-deep-2 c = omega (arith, alone c.requires.1)
 

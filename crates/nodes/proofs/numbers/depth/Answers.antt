@@ -4,4 +4,4 @@ use Rattle.nodes.proofs.Depths.{depth_zeros}
 use Rattle.nodes.proofs.numbers.depth.Goals as goal
 
 pub returns : goal.returns
-returns c = omega (arith, depth_zeros c.before.args.n.0 (omega arith) (omega arith))
+returns c = omega (arith, depth_zeros c.args.n.0 (omega arith) (omega arith))

@@ -2,12 +2,12 @@
 use mathlib.Core.Path.{◌≡◌, ap, ap₂, ◌∙◌, sym, subst}
 use Prim.Native.Nat.{ℕ, ◌-◌, ◌*◌, ◌%◌, ◌^◌, ◌<◌}
 use native.Mathlib.Omega.{arith}
-use borrow.Author.Rules.{rules}
 use Rattle.nodes.specs.Depth.{depth_of}
 use Rattle.pins.proofs.PinBits.{LeafPlaced, leaf_placed}
 use Rattle.pins.proofs.places.leaf_place.Goals as goal
+use Rattle.pins.proofs.places.leaf_place.Goals.{Start}
 
-here : (c : goal.Start) → LeafPlaced c.args.deep c.args.k.0
+here : (c : Start) → LeafPlaced c.args.deep c.args.k.0
 here c = leaf_placed c.args.deep c.args.k.0 (omega arith) (omega arith) (omega arith)
 
 shifted : (D k d : ℕ) → LeafPlaced D k → d ≡ depth_of k → k * 2 ^ (D - d) % 2 ^ 64 ≡ k * 2 ^ (D - depth_of k)
@@ -22,6 +22,3 @@ returns c =
     let l = here c.before.before in
     let e = ap₂ (λ (x y : ℕ). x - y) (shifted _ _ _ l c.depth-d.ensures) l.deep in
     (e, subst (λ (x : ℕ). x < 2 ^ c.args.deep) (sym e) l.inside)
-
-pub depth-d-requires : goal.depth-d-requires
-depth-d-requires c = search rules
