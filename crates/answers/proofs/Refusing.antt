@@ -1,12 +1,11 @@
 -- A refusal is never taken for done: its number is not 0. Every number fits a byte, and an ancestor stands beside 10 alone.
-use mathlib.Core.Path.{◌≡◌, refl}
+use mathlib.Core.Path.{◌≡◌, refl, ap}
 use mathlib.Core.Logic.{◌≢◌}
 use Prim.Native.Nat.{◌<◌}
 use native.Mathlib.Omega.{arith}
 use Rattle.answers.specs.declared.Refusal.{Refusal}
 use Rattle.answers.specs.declared.Refusal.TheVariants.{WrongLength, NotGood, NoSuchNode, IsCut, AtGreatestDepth, AtDepthOne, LeavesMissing, NoSuchNumber, BadRecord, BelowLeaf, LeafPinned, NoRoom, BytesLeft, PanelInUse}
-use Rattle.answers.specs.declared.Answer.{Answer}
-use Rattle.answers.specs.declared.Answer.TheVariants.{Done, No}
+use Rattle.std.specs.Prelude.{Result, Ok, Err, IsErrAnd}
 use Rattle.answers.specs.Refusals.{refusal_number, refusal_ancestor, answer_number}
 
 -- the number of a refusal is not 0, and fits a byte
@@ -29,9 +28,9 @@ refusal_range PanelInUse = omega arith
 pub refusal_pos : (e : Refusal) → refusal_number e ≢ 0
 refusal_pos e z = omega (arith, refusal_range e)
 
-pub answer_byte : (a : Answer) → answer_number a < 256
-answer_byte Done = omega arith
-answer_byte (No e) = (refusal_range e).1
+pub answer_byte : {T : Type 0} (a : Result T Refusal) → answer_number a < 256
+answer_byte (Ok x) = omega arith
+answer_byte (Err e) = (refusal_range e).1
 
 -- beside all but 10 the ancestor is 0
 pub refusal_alone : (e : Refusal) → refusal_number e ≢ 10 → refusal_ancestor e ≡ 0
@@ -49,3 +48,8 @@ refusal_alone LeafPinned z = refl
 refusal_alone NoRoom z = refl
 refusal_alone BytesLeft z = refl
 refusal_alone PanelInUse z = refl
+
+-- what a `?` hands on is the refusal that it met
+pub handed : {T : Type 0} {r : Result T Refusal} {e : Refusal} → IsErrAnd r (λ x. x ≡ e) → r ≡ Err e
+handed {r = Ok x} h = absurd h
+handed {r = Err x} h = ap Err h

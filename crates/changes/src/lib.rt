@@ -8,27 +8,24 @@ ghost use Rattle.tables.specs.inner.Says.{Says};
 ghost use Rattle.panel.specs.Panels.{deep_of, Good, LeafOf};
 ghost use Rattle.panel.specs.Calls.{Ancestor, Split, Together, Merge};
 
-use answers::{Answer, Refusal};
+use answers::Refusal;
 use cutting::{merge_leaves, split_leaf};
 use leaves::{is_leaf, leaf_beside, tested};
 use nodes::Node;
 use pinning::unpinned;
 
 // Splits leaf k: 0, or refusal 3, 4, 10 or 5 and no byte written.
-pub fn split(panel: &mut [u8], deep: usize, k: Node) -> Answer
+pub fn split(panel: &mut [u8], deep: usize, k: Node) -> Result<(), Refusal>
     requires { Good panel.old × (deep ≡ deep_of panel.old) }
     ensures split { Split panel.old k.0 (answer_number result) panel.new }
     ensures ancestor { Ancestor panel.old k.0 (answer_number result) (answer_ancestor result) }
 {
-    let leaf = tested(panel, deep, k);
-    if let Answer::No(e) = leaf {
-        return Answer::No(e);
-    }
+    tested(panel, deep, k)?;
     if nodes::depth(k) as usize >= deep {
-        return Answer::No(Refusal::AtGreatestDepth);
+        return Err(Refusal::AtGreatestDepth);
     }
     split_leaf(panel, deep, k);
-    Answer::Done
+    Ok(())
 }
 
 // Whether the leaves are there that a merge of leaf k needs: its sibling and, where the parent's edge neighbour is a node,
@@ -38,37 +35,29 @@ fn together(panel: &[u8], deep: usize, k: Node) -> bool
     ensures { Says (Together panel.now k.0) result }
 {
     let q = k.0 / 2;
-    if leaf_beside(panel, deep, Node(4 * q + 1 - k.0)) {
-        let e = nodes::edge_of(Node(q));
-        if e == 0 {
-            return true;
-        }
-        if is_leaf(panel, deep, Node(2 * e)) {
-            return leaf_beside(panel, deep, Node(2 * e + 1));
-        }
+    if !leaf_beside(panel, deep, Node(4 * q + 1 - k.0)) {
+        return false;
     }
-    false
+    let e = nodes::edge_of(Node(q));
+    e == 0 || is_leaf(panel, deep, Node(2 * e)) && leaf_beside(panel, deep, Node(2 * e + 1))
 }
 
 // Merges leaf k: 0, or refusal 3, 4, 10, 6, 7 or 11 and no byte written.
-pub fn merge(panel: &mut [u8], deep: usize, k: Node) -> Answer
+pub fn merge(panel: &mut [u8], deep: usize, k: Node) -> Result<(), Refusal>
     requires { Good panel.old × (deep ≡ deep_of panel.old) }
     ensures merge { Merge panel.old k.0 (answer_number result) panel.new }
     ensures ancestor { Ancestor panel.old k.0 (answer_number result) (answer_ancestor result) }
 {
-    let leaf = tested(panel, deep, k);
-    if let Answer::No(e) = leaf {
-        return Answer::No(e);
-    }
+    tested(panel, deep, k)?;
     if nodes::depth(k) <= 1 {
-        return Answer::No(Refusal::AtDepthOne);
+        return Err(Refusal::AtDepthOne);
     }
     if !together(panel, deep, k) {
-        return Answer::No(Refusal::LeavesMissing);
+        return Err(Refusal::LeavesMissing);
     }
     if !unpinned(panel, deep, k) {
-        return Answer::No(Refusal::LeafPinned);
+        return Err(Refusal::LeafPinned);
     }
     merge_leaves(panel, deep, k);
-    Answer::Done
+    Ok(())
 }

@@ -1,6 +1,6 @@
--- One step down: the node's place says where its children's words start, and the numbers picked are those of one child.
+-- One step down: the node's place says where its children's words start, and the numbers selected are those of one child.
 use mathlib.Core.Path.{◌≡◌, refl, sym, ap, ap₂, ◌∙◌, subst, subst⁻¹}
-use mathlib.Core.Bool.{Bool, true, false}
+use mathlib.Core.Bool.{Bool, true, false, cond}
 use mathlib.Core.List.{List}
 use mathlib.Core.Logic.{◌↔◌}
 use Prim.Native.Nat.{ℕ, suc, ◌+◌, ◌-◌, ◌*◌, ◌/◌, ◌%◌, ◌^◌, ◌≤◌, ◌<◌}
@@ -18,7 +18,7 @@ use Rattle.words.specs.Words.{width, word, leaf_bit}
 use Rattle.words.specs.inner.Working.{Room}
 use Rattle.words.proofs.Slots.{from, wide, packed, in_panel}
 use Rattle.panel.specs.Panels.{deep_of, CutOf, Good, LeafOf, number_in, leaf_count}
-use Rattle.descents.specs.inner.Descents.{OnWay, Passed, NamedAt, Spot, Picked}
+use Rattle.descents.specs.inner.Descents.{OnWay, Passed, NamedAt, Spot}
 use Rattle.words.proofs.Rooms.{room_bytes}
 use Rattle.panel.proofs.Lengths.{fits_small, good_room}
 use Rattle.cuts.proofs.Places.{cut_depth, cut_set}
@@ -142,15 +142,7 @@ stop_over {s} {left} {p} {n} {w} G S e h = record {
   over = ap (λ x. n / 2 ^ x) (let f : deep_of s - depth_of (n / 2 ^ left) ≡ left = omega (arith, S.levels) in f);
 }
 
--- ---- the numbers of one child, as they are picked
-
-pub at_most : {c : Bool} {a b r : ℕ} (n : ℕ) → Picked c a b r → a ≤ n → b ≤ n → r ≤ n
-at_most {c = true} n t x y = omega (arith, t.yes refl)
-at_most {c = false} n t x y = omega (arith, t.no refl)
-
--- x, or more by what is picked
-pub more : {c : Bool} {b r : ℕ} (x : ℕ) → Picked c 0 b r → Picked c x (x + b) (x + r)
-more x t = record { yes = λ e. omega (arith, t.yes e); no = λ e. omega (arith, t.no e) }
+-- ---- the numbers of one child, as they are selected
 
 -- the child m, whose word v starts at bit q, and e leaves stand left of it below its parent
 pub record Chosen (s : List ℕ) (left k q m v e : ℕ) : Type 0 where
@@ -161,22 +153,22 @@ pub record Chosen (s : List ℕ) (left k q m v e : ℕ) : Type 0 where
 moved : {s : List ℕ} {left p k w q m v : ℕ} → q ≡ p → m ≡ k → v ≡ w → Spot s left p k w → Spot s left q m v
 moved {s} {left} {p} {k} {w} {q} {m} {v} a b e S = subst⁻¹ (λ x. Spot s left x m v) a (subst⁻¹ (λ x. Spot s left p x v) b (subst⁻¹ (λ x. Spot s left p k x) e S))
 
-pub chosen : {s : List ℕ} {left p k w l q m v e : ℕ} {c : Bool} → Children s left p k w → l ≡ word (deep_of s) s (2 * k) →
-    Picked c (2 * (p - k)) (2 * (p - k) + left) q → Picked c (2 * k) (2 * k + 1) m → Picked c l (w - l) v → Picked c 0 l e →
+pub chosen : {s : List ℕ} {left p k w l q m v e : ℕ} (c : Bool) → Children s left p k w → l ≡ word (deep_of s) s (2 * k) →
+    q ≡ cond c (2 * (p - k)) (2 * (p - k) + left) → m ≡ cond c (2 * k) (2 * k + 1) → v ≡ cond c l (w - l) → e ≡ cond c 0 l →
     Chosen s left k q m v e
-chosen {s} {c = true} C h at node rest past = record {
-  spot = moved (at.yes refl) (node.yes refl) (rest.yes refl ∙ h) C.to_left;
-  number = ap (number_in s) (node.yes refl) ∙ omega (arith, C.number_left, past.yes refl);
+chosen {s} true C h at node rest past = record {
+  spot = moved at node (rest ∙ h) C.to_left;
+  number = ap (number_in s) node ∙ omega (arith, C.number_left, past);
 }
-chosen {s} {c = false} C h at node rest past = record {
-  spot = moved (at.no refl) (node.no refl) (omega (arith, rest.no refl, C.sums)) C.to_right;
-  number = ap (number_in s) (node.no refl) ∙ omega (arith, C.number_right, past.no refl);
+chosen {s} false C h at node rest past = record {
+  spot = moved at node (omega (arith, rest, C.sums)) C.to_right;
+  number = ap (number_in s) node ∙ omega (arith, C.number_right, past);
 }
 
 -- of i leaves, those that are left to pass below the child
-pub fewer : {c : Bool} {w l i v e : ℕ} → (c ≡ true → i < l) → (c ≡ false → l ≤ i) → i < w → Picked c l (w - l) v → Picked c 0 l e → (e ≤ i) × (i - e < v)
-fewer {c = true} t f h rest past = (omega (arith, past.yes refl), omega (arith, t refl, rest.yes refl, past.yes refl))
-fewer {c = false} t f h rest past = (omega (arith, f refl, past.no refl), omega (arith, f refl, rest.no refl, past.no refl))
+pub fewer : (c : Bool) {w l i v e : ℕ} → (c ≡ true → i < l) → (c ≡ false → l ≤ i) → i < w → v ≡ cond c l (w - l) → e ≡ cond c 0 l → (e ≤ i) × (i - e < v)
+fewer true t f h rest past = (omega (arith, past), omega (arith, t refl, rest, past))
+fewer false t f h rest past = (omega (arith, f refl, past), omega (arith, f refl, rest, past))
 
 -- the node above that on the way to n
 half_of : (n left : ℕ) → 1 ≤ left → n / 2 ^ left ≡ n / 2 ^ (left - 1) / 2
@@ -184,8 +176,9 @@ half_of n left o = ap (λ x. n / 2 ^ x) (let e : left ≡ suc (left - 1) = omega
 
 -- the node on the way to n, one level down
 pub next : (n left : ℕ) (c : Bool) → 1 ≤ left → (c ≡ true → n / 2 ^ (left - 1) % 2 ≡ 0) → (c ≡ false → n / 2 ^ (left - 1) % 2 ≡ 0 → ⊥) →
-    Picked c (2 * (n / 2 ^ left)) (2 * (n / 2 ^ left) + 1) (n / 2 ^ (left - 1))
-next n left c o t f = record { yes = λ e. omega (arith, half_of n left o, t e); no = λ e. omega (arith, half_of n left o, f e) }
+    n / 2 ^ (left - 1) ≡ cond c (2 * (n / 2 ^ left)) (2 * (n / 2 ^ left) + 1)
+next n left true o t f = omega (arith, half_of n left o, t refl)
+next n left false o t f = omega (arith, half_of n left o, f refl)
 
 -- ---- by cuts alone
 

@@ -6,19 +6,14 @@
 ghost use Rattle.std.specs.Prelude.{◌≡◌, ◌+◌, ◌-◌, ◌/◌, ◌^◌, ◌≤◌, ◌<◌};
 ghost use Rattle.panel.specs.Panels.{Good, number_in};
 ghost use Rattle.panel.specs.Calls.{LeafNumbered};
-ghost use Rattle.descents.specs.inner.Descents.{NamedAt, OnWay, Passed, Picked, Spot};
+ghost use Rattle.descents.specs.inner.Descents.{NamedAt, OnWay, Passed, Spot};
 
 use nodes::{LeafNumber, Node};
-
-// One of two numbers: a where c holds, else b. A step down picks each number of the child so: no jump to guess is left.
-fn pick(c: bool, a: u32, b: u32) -> u32
-    ensures { Picked c a b result }
-{
-    if c { a } else { b }
-}
+use std::hint::select_unpredictable;
 
 // The leaf that has i leaves left of it below `node`, whose word starts at bit `start`; `left` levels are left to the last.
-// Only the left child's word is read: where it starts follows from the node's, and the right child's word is the rest.
+// Only the left child's word is read: where it starts follows from the node's, and the right child's word is the rest. Each number of the
+// child is selected from two: no jump to guess is left.
 pub fn leaf_below(
     panel: &&[u8],
     left: usize,
@@ -36,19 +31,23 @@ pub fn leaf_below(
     }
     let first = 2 * (start - k as usize);
     let l = fields::get_field(*panel, first, left);
-    let n = i.0;
-    let in_left = n < l;
-    let at = first + pick(in_left, 0, left as u32) as usize;
-    let child = 2 * k + pick(in_left, 0, 1);
-    let leaves = pick(in_left, l, word - l);
-    let past = pick(in_left, 0, l);
-    let rest = n - past;
-    leaf_below(panel, left - 1, at, Node(child), leaves, LeafNumber(rest))
+    let in_left = i.0 < l;
+    let at = select_unpredictable(in_left, first, first + left);
+    let child = select_unpredictable(in_left, 2 * k, 2 * k + 1);
+    let leaves = select_unpredictable(in_left, l, word - l);
+    let past = select_unpredictable(in_left, 0, l);
+    leaf_below(
+        panel,
+        left - 1,
+        at,
+        Node(child),
+        leaves,
+        LeafNumber(i.0 - past),
+    )
 }
 
 // The leaf on the way to n, a node of depth D, and into `number` its number. The way has come to the node `left` levels above n,
-// whose own word starts at bit `start`, with `before` leaves left of it. It reads as `leaf_below` does. `number` is lent from a leaf
-// number: a reference to the struct itself is not covered by the borrow checker.
+// whose own word starts at bit `start`, with `before` leaves left of it. It reads as `leaf_below` does.
 pub fn leaf_over(
     panel: &&[u8],
     left: usize,
@@ -56,24 +55,31 @@ pub fn leaf_over(
     own: u32,
     before: LeafNumber,
     n: Node,
-    number: &mut u32,
+    number: &mut LeafNumber,
 ) -> u32
     requires { Good panel.now.now × Spot panel.now.now left start (n.0 / 2 ^ left) own × (before.0 ≡ number_in panel.now.now (n.0 / 2 ^ left)) }
-    ensures { OnWay panel.now.now n.0 result number.new }
+    ensures { OnWay panel.now.now n.0 result number.new.0 }
 {
     let k = n.0;
     if own < 2 {
-        *number = before.0;
+        *number = before;
         return k >> left;
     }
     let first = 2 * (start - (k >> left) as usize);
     let l = fields::get_field(*panel, first, left);
     let to_left = (k >> (left - 1)) % 2 == 0;
-    let at = first + pick(to_left, 0, left as u32) as usize;
-    let leaves = pick(to_left, l, own - l);
-    let past = pick(to_left, 0, l);
-    let passed = before.0 + past;
-    leaf_over(panel, left - 1, at, leaves, LeafNumber(passed), n, number)
+    let at = select_unpredictable(to_left, first, first + left);
+    let leaves = select_unpredictable(to_left, l, own - l);
+    let past = select_unpredictable(to_left, 0, l);
+    leaf_over(
+        panel,
+        left - 1,
+        at,
+        leaves,
+        LeafNumber(before.0 + past),
+        n,
+        number,
+    )
 }
 
 // How many nodes are cut on the way to n, a node of depth D, as far as that `last` levels above it. The way has come to the node `left` levels

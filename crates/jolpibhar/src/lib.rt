@@ -12,7 +12,7 @@ use nodes::{LeafNumber, Node};
 pub extern "C" fn panel_open(panel: &mut [u8], depth: u32) -> u32
     ensures { Open panel.old depth result panel.new }
 {
-    opening::open(panel, depth).number()
+    answers::number(opening::open(panel, depth))
 }
 
 // Whether the panel is good.
@@ -20,7 +20,7 @@ pub extern "C" fn panel_open(panel: &mut [u8], depth: u32) -> u32
 pub extern "C" fn panel_judge(panel: &[u8]) -> u32
     ensures { Judged panel.now result }
 {
-    panel::judge(panel).number()
+    answers::number(panel::judge(panel))
 }
 
 // The number of leaves.
@@ -29,8 +29,8 @@ pub extern "C" fn panel_count(panel: &[u8], count: &mut u32) -> u32
     ensures { Count panel.now result count.new }
 {
     let counted = calls::count(panel);
-    *count = counted.leaves();
-    counted.number()
+    *count = counted.unwrap_or(0);
+    answers::number(counted)
 }
 
 // The node of a leaf number.
@@ -39,8 +39,8 @@ pub extern "C" fn panel_leaf(panel: &[u8], number: u32, node: &mut u32) -> u32
     ensures { LeafAt panel.now number result node.new }
 {
     let found = calls::leaf_at(panel, LeafNumber(number));
-    *node = found.node();
-    found.number()
+    *node = found.map_or(0, |k| k.0);
+    answers::number(found)
 }
 
 // The leaf number of a node, and beside 10 the leaf above it.
@@ -50,9 +50,9 @@ pub extern "C" fn panel_number(panel: &[u8], node: u32, number: &mut u32, ancest
     ensures ancestor { Ancestor panel.now node result ancestor.new }
 {
     let numbered = calls::number_of(panel, Node(node));
-    *number = numbered.leaf();
-    *ancestor = numbered.ancestor();
-    numbered.number()
+    *number = numbered.map_or(0, |i| i.0);
+    *ancestor = answers::ancestor(numbered);
+    answers::number(numbered)
 }
 
 // Whether a leaf is pinned, 1 or 0, and beside 10 the leaf above the node.
@@ -62,9 +62,9 @@ pub extern "C" fn panel_pinned(panel: &[u8], node: u32, pinned: &mut u32, ancest
     ensures ancestor { Ancestor panel.now node result ancestor.new }
 {
     let told = calls::pinned(panel, Node(node));
-    *pinned = told.bit();
-    *ancestor = told.ancestor();
-    told.number()
+    *pinned = told.map_or(0, u32::from);
+    *ancestor = answers::ancestor(told);
+    answers::number(told)
 }
 
 // Which bytes of the panel the leaf bits fill: the place of the first, and how many.
@@ -87,8 +87,8 @@ pub extern "C" fn panel_split(panel: &mut [u8], node: u32, ancestor: &mut u32) -
     ensures ancestor { Ancestor panel.old node result ancestor.new }
 {
     let cut = calls::split(panel, Node(node));
-    *ancestor = cut.ancestor();
-    cut.number()
+    *ancestor = answers::ancestor(cut);
+    answers::number(cut)
 }
 
 // Merges a leaf, or refuses and writes no byte of the panel; beside 10 the leaf above the node.
@@ -98,8 +98,8 @@ pub extern "C" fn panel_merge(panel: &mut [u8], node: u32, ancestor: &mut u32) -
     ensures ancestor { Ancestor panel.old node result ancestor.new }
 {
     let merged = calls::merge(panel, Node(node));
-    *ancestor = merged.ancestor();
-    merged.number()
+    *ancestor = answers::ancestor(merged);
+    answers::number(merged)
 }
 
 // Pins a leaf, or refuses and writes no byte of the panel; beside 10 the leaf above the node.
@@ -109,8 +109,8 @@ pub extern "C" fn panel_pin(panel: &mut [u8], node: u32, ancestor: &mut u32) -> 
     ensures ancestor { Ancestor panel.old node result ancestor.new }
 {
     let pinned = calls::pin(panel, Node(node));
-    *ancestor = pinned.ancestor();
-    pinned.number()
+    *ancestor = answers::ancestor(pinned);
+    answers::number(pinned)
 }
 
 // Takes a leaf's pin back, or refuses and writes no byte of the panel; beside 10 the leaf above the node.
@@ -120,8 +120,8 @@ pub extern "C" fn panel_unpin(panel: &mut [u8], node: u32, ancestor: &mut u32) -
     ensures ancestor { Ancestor panel.old node result ancestor.new }
 {
     let unpinned = calls::unpin(panel, Node(node));
-    *ancestor = unpinned.ancestor();
-    unpinned.number()
+    *ancestor = answers::ancestor(unpinned);
+    answers::number(unpinned)
 }
 
 // Mends the panel from whatever bytes it holds, with the cuts that this added, or refuses with 1 and writes no byte of it.
@@ -130,8 +130,8 @@ pub extern "C" fn panel_mend(panel: &mut [u8], added: &mut u32) -> u32
     ensures { Mend panel.old result (record { panel = panel.new; added = added.new }) }
 {
     let mended = mending::mend(panel);
-    *added = mended.added();
-    mended.number()
+    *added = mended.unwrap_or(0);
+    answers::number(mended)
 }
 
 // Works through records of splits and merges in turn, an answer byte for each, or refuses and writes no byte.
@@ -139,5 +139,5 @@ pub extern "C" fn panel_mend(panel: &mut [u8], added: &mut u32) -> u32
 pub extern "C" fn panel_round(panel: &mut [u8], records: &[u8], answers: &mut [u8]) -> u32
     ensures { Round panel.old records.now answers.old result (record { panel = panel.new; answers = answers.new }) }
 {
-    rounds::round(panel, records, answers).number()
+    answers::number(rounds::round(panel, records, answers))
 }

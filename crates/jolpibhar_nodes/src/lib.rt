@@ -4,7 +4,14 @@
 ghost use Rattle.node_calls.specs.Calls.{Neighbours, Corners};
 ghost use Rattle.triangles.specs.Corners.{point, triangle};
 
-use nodes::Node;
+use nodes::{Node, Triple};
+
+// What goes out beside a refusal.
+const NONE: Triple = Triple {
+    left: 0,
+    right: 0,
+    edge: 0,
+};
 
 // The neighbours of a node; 0 is none.
 #[unsafe(no_mangle)]
@@ -12,11 +19,11 @@ pub extern "C" fn node_neighbours(node: u32, left: &mut u32, right: &mut u32, ed
     ensures { Neighbours node result (record { left = left.new; right = right.new; edge = edge.new }) }
 {
     let around = node_calls::neighbours(Node(node));
-    let t = around.triple();
+    let t = around.unwrap_or(NONE);
     *left = t.left;
     *right = t.right;
     *edge = t.edge;
-    around.number()
+    answers::number(around)
 }
 
 // The corners A, B, C of a node.
@@ -32,13 +39,13 @@ pub extern "C" fn node_corners(
 ) -> u32
     ensures { Corners node result (triangle (point ax.new ay.new) (point bx.new by.new) (point cx.new cy.new)) }
 {
-    let mut answer: u32 = 0;
-    let t = node_calls::corners(Node(node), &mut answer);
+    let corners = node_calls::corners(Node(node));
+    let t = corners.unwrap_or([[0; 2]; 3]);
     *ax = t[0][0];
     *ay = t[0][1];
     *bx = t[1][0];
     *by = t[1][1];
     *cx = t[2][0];
     *cy = t[2][1];
-    answer
+    answers::number(corners)
 }

@@ -4,16 +4,17 @@
 ghost use Rattle.std.specs.Prelude.{◌≡◌, ◌≤◌, ◌<◌};
 ghost use Rattle.tables.specs.inner.Says.{Says};
 ghost use Rattle.tables.specs.Table.{Answers};
-ghost use Rattle.answers.specs.Refusals.{answer_number, answer_ancestor, numbered_number, numbered_leaf, numbered_ancestor};
+ghost use Rattle.answers.specs.Refusals.{answer_number, answer_ancestor, answer_leaf};
 ghost use Rattle.cuts.specs.Cuts.{sibling};
 ghost use Rattle.panel.specs.Panels.{deep_of, Good, InRange, LeafOf, leaf_count};
 ghost use Rattle.panel.specs.Calls.{LeafNumbered, leaf_rows, Ancestor, NumberOf};
 ghost use Rattle.leaves.specs.inner.Ways.{CutsTo, OnFirstWay, Ranged};
 
-use answers::{Answer, Numbered, Refusal};
+use answers::Refusal;
 use cuts::is_cut;
 use descents::{cuts_toward, leaf_below, leaf_over};
 use nodes::{LeafNumber, Node};
+use std::cmp::Ordering;
 
 // Where a descent stops: at a leaf, and its number.
 #[derive(Clone, Copy)]
@@ -44,11 +45,7 @@ fn in_range(deep: usize, k: Node) -> bool
     requires { deep ≤ 17 }
     ensures { Says (Ranged deep k.0) result }
 {
-    let n = k.0;
-    if n < 2 {
-        return false;
-    }
-    n < 2u32 << deep
+    2 <= k.0 && k.0 < 2u32 << deep
 }
 
 // The leaf on the way from node 1 to the first node of depth D below k, and its number: k itself where k is a leaf,
@@ -61,7 +58,7 @@ pub fn leaf_toward(panel: &[u8], deep: usize, k: Node) -> Stop
     let first = Node(k.0 << levels);
     let n = count(panel, deep);
     let mut i = LeafNumber(0);
-    let node = leaf_over(&panel, deep, deep + 3, n, LeafNumber(0), first, &mut i.0);
+    let node = leaf_over(&panel, deep, deep + 3, n, LeafNumber(0), first, &mut i);
     Stop {
         node: Node(node),
         number: i,
@@ -105,42 +102,38 @@ pub fn leaf_beside(panel: &[u8], deep: usize, k: Node) -> bool
 }
 
 // Whether k is a leaf, as a call that takes one answers: 0, or refusal 3, 4 or 10.
-pub fn tested(panel: &[u8], deep: usize, k: Node) -> Answer
+pub fn tested(panel: &[u8], deep: usize, k: Node) -> Result<(), Refusal>
     requires { Good panel.now × (deep ≡ deep_of panel.now) }
     ensures answers { Answers (leaf_rows panel.now k.0) (answer_number result) }
     ensures ancestor { Ancestor panel.now k.0 (answer_number result) (answer_ancestor result) }
 {
     if !in_range(deep, k) {
-        return Answer::No(Refusal::NoSuchNode);
+        return Err(Refusal::NoSuchNode);
     }
     let d = nodes::depth(k);
     let cuts = cuts_to(panel, deep, k);
     if d < cuts {
-        return Answer::No(Refusal::IsCut);
+        return Err(Refusal::IsCut);
     }
     if cuts < d {
-        return Answer::No(Refusal::BelowLeaf(Node(k.0 >> (d - cuts))));
+        return Err(Refusal::BelowLeaf(Node(k.0 >> (d - cuts))));
     }
-    Answer::Done
+    Ok(())
 }
 
 // The number of leaf k, or refusal 3, 4 or 10.
-pub fn number_of(panel: &[u8], deep: usize, k: Node) -> Numbered
+pub fn number_of(panel: &[u8], deep: usize, k: Node) -> Result<LeafNumber, Refusal>
     requires { Good panel.now × (deep ≡ deep_of panel.now) }
-    ensures number_of { NumberOf panel.now k.0 (numbered_number result) (numbered_leaf result) }
-    ensures ancestor { Ancestor panel.now k.0 (numbered_number result) (numbered_ancestor result) }
+    ensures number_of { NumberOf panel.now k.0 (answer_number result) (answer_leaf result) }
+    ensures ancestor { Ancestor panel.now k.0 (answer_number result) (answer_ancestor result) }
 {
-    if !in_range(deep, k) {
-        return Numbered::No(Refusal::NoSuchNode);
+    if in_range(deep, k) {
+        let stop = leaf_toward(panel, deep, k);
+        return match k.0.cmp(&stop.node.0) {
+            Ordering::Less => Err(Refusal::IsCut),
+            Ordering::Equal => Ok(stop.number),
+            Ordering::Greater => Err(Refusal::BelowLeaf(stop.node)),
+        };
     }
-    let stop = leaf_toward(panel, deep, k);
-    let leaf = stop.node;
-    let number = stop.number;
-    if k.0 < leaf.0 {
-        return Numbered::No(Refusal::IsCut);
-    }
-    if leaf.0 < k.0 {
-        return Numbered::No(Refusal::BelowLeaf(leaf));
-    }
-    Numbered::Number(number)
+    Err(Refusal::NoSuchNode)
 }

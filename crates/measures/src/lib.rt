@@ -61,8 +61,7 @@ pub extern "C" fn measure_split(panel: &mut [u8], deep: usize, node: u32) -> u32
     requires { Good panel.old × (deep ≡ deep_of panel.old) }
     ensures { Split panel.old node result panel.new }
 {
-    let a = changes::split(panel, deep, Node(node));
-    a.number()
+    answers::number(changes::split(panel, deep, Node(node)))
 }
 
 #[unsafe(no_mangle)]
@@ -70,6 +69,5 @@ pub extern "C" fn measure_merge(panel: &mut [u8], deep: usize, node: u32) -> u32
     requires { Good panel.old × (deep ≡ deep_of panel.old) }
     ensures { Merge panel.old node result panel.new }
 {
-    let a = changes::merge(panel, deep, Node(node));
-    a.number()
+    answers::number(changes::merge(panel, deep, Node(node)))
 }

@@ -1,13 +1,13 @@
 // Mending a lent panel: the call `mend`, from bytes of a right length, whatever they hold, to the smallest good panel that holds the cuts they name.
 #![tactic(auto)]
 
-ghost use Rattle.answers.specs.Refusals.{mending_number, mending_added};
+ghost use Rattle.answers.specs.Refusals.{answer_number, answer_value};
 ghost use Rattle.words.specs.inner.Working.{Room};
 ghost use Rattle.panel.specs.Panels.{Fits};
 ghost use Rattle.panel.specs.Calls.{MendedBy, Mend};
 ghost use Rattle.mending.specs.inner.Mending.{Begun};
 
-use answers::{Mending, Refusal};
+use answers::Refusal;
 use panel::judging::depth_of;
 
 // Clears the spare bits, writes the depth word and sets leaf bit 0.
@@ -35,12 +35,9 @@ fn mend_right(panel: &mut [u8], deep: usize) -> u32
 }
 
 // Mends the panel: the cuts added, or refusal 1 and no byte written.
-pub fn mend(panel: &mut [u8]) -> Mending
-    ensures { Mend panel.old (mending_number result) (record { panel = panel.new; added = mending_added result }) }
+pub fn mend(panel: &mut [u8]) -> Result<u32, Refusal>
+    ensures { Mend panel.old (answer_number result) (record { panel = panel.new; added = answer_value result }) }
 {
-    let deep = depth_of(panel);
-    if deep == 0 {
-        return Mending::No(Refusal::WrongLength);
-    }
-    Mending::Added(mend_right(panel, deep))
+    let deep = depth_of(panel).ok_or(Refusal::WrongLength)?;
+    Ok(mend_right(panel, deep))
 }

@@ -1,5 +1,6 @@
 -- The calls that take no panel, by the table of "When the scanner says no".
-use Rattle.std.specs.Prelude.{◌≡◌, List, [], ◌∷◌, ℕ, ◌/◌, ◌%◌, ◌≤◌}
+use Rattle.std.specs.Prelude.{◌≡◌, List, [], ◌∷◌, ℕ, ◌/◌, ◌%◌, ◌≤◌, Result, Ok, Err}
+use Rattle.answers.specs.declared.Refusal.{Refusal}
 use Rattle.nodes.specs.declared.triples.Triple.{Triple}
 use Rattle.nodes.specs.Depth.{depth_of}
 use Rattle.nodes.specs.Limits.{KnownNode}
@@ -16,6 +17,11 @@ Neighbours n a t = Outcome (node_rows n) Triple (λ x. x ≡ neighbours_of n) (�
 
 abbrev pub no_corners : Triangle
 no_corners = triangle (point 0 0) (point 0 0) (point 0 0)
+
+-- the triangle that is handed out
+abbrev pub answer_triangle : Result Triangle Refusal → Triangle
+answer_triangle (Ok t) = t
+answer_triangle (Err e) = no_corners
 
 -- x are the corners of n, turned on the way out, and all whole numbers: the corner that its parent has not lies exactly in the middle of the
 -- parent's long side

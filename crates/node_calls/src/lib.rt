@@ -1,31 +1,28 @@
 // The two calls that take no panel, neighbours and corners.
 #![tactic(auto)]
 
-ghost use Rattle.answers.specs.Refusals.{around_number, around_triple};
-ghost use Rattle.node_calls.specs.Calls.{Neighbours, Corners};
+ghost use Rattle.answers.specs.Refusals.{answer_number, answer_triple};
+ghost use Rattle.node_calls.specs.Calls.{Neighbours, Corners, answer_triangle};
 
-use answers::{Around, Refusal};
-use nodes::Node;
+use answers::Refusal;
+use nodes::{Node, Triple};
 
-// The corners of n, counterclockwise with y upward, and into `answer` the answer's number; refused below 2 and above the greatest node.
-pub fn corners(n: Node, answer: &mut u32) -> [[u32; 2]; 3]
-    ensures { Corners n.0 answer.new result }
+// The corners of n, counterclockwise with y upward; refused below 2 and above the greatest node.
+pub fn corners(n: Node) -> Result<[[u32; 2]; 3], Refusal>
+    ensures { Corners n.0 (answer_number result) (answer_triangle result) }
 {
-    if !nodes::known(n) {
-        let refusal = Refusal::NoSuchNode;
-        *answer = refusal.number();
-        return [[0, 0], [0, 0], [0, 0]];
+    if nodes::known(n) {
+        return Ok(triangles::turned_corners(n));
     }
-    *answer = 0;
-    triangles::turned_corners(n)
+    Err(Refusal::NoSuchNode)
 }
 
 // The neighbours of n; refused below 2 and above the greatest node.
-pub fn neighbours(n: Node) -> Around
-    ensures { Neighbours n.0 (around_number result) (around_triple result) }
+pub fn neighbours(n: Node) -> Result<Triple, Refusal>
+    ensures { Neighbours n.0 (answer_number result) (answer_triple result) }
 {
     if !nodes::known(n) {
-        return Around::No(Refusal::NoSuchNode);
+        return Err(Refusal::NoSuchNode);
     }
-    Around::Neighbours(nodes::triple_of(n))
+    Ok(nodes::triple_of(n))
 }

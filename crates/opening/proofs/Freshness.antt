@@ -1,12 +1,14 @@
 -- Zero bytes with the depth word, leaf bits 0 and 2 ^ (D - 1), and right sums: the good panel whose only cut is node 1, with no pin.
 use mathlib.Core.Path.{◌≡◌, refl, sym, ap, ◌∙◌, subst}
-use mathlib.Core.Logic.{◌≢◌, ◌↔◌, inl, inr}
+use mathlib.Core.Logic.{◌≢◌, ◌↔◌, inl, inr, ⊎_elim}
 use mathlib.Core.List.{List}
 use Prim.Native.Nat.{ℕ, zero, suc, ◌+◌, ◌-◌, ◌*◌, ◌/◌, ◌%◌, ◌^◌, ◌≤◌, ◌<◌}
 use native.Mathlib.Nat.{zero-div}
 use native.Mathlib.Decide.{ℕ_discrete}
 use native.Mathlib.Omega.{arith}
-use lib.ListN.{length}
+use lib.ListN.{length, replicate, get_or, get_or-eq_default}
+use Rattle.std.proofs.lemmas.List.{get_or-replicate, length-replicate}
+use Rattle.bits.proofs.Laws.{le_or_lt}
 use lib.Pow.{pow_pos}
 use Rattle.bits.specs.Bits.{digit, bit}
 use Rattle.nodes.proofs.Depths.{pow_next, at_root, depth_zero}
@@ -24,7 +26,6 @@ use Rattle.pins.proofs.PinBits.{pin_put_leaf, summed_pin}
 use Rattle.panel.specs.Panels.{Fits, deep_of}
 use Rattle.panel.specs.Calls.{Fresh}
 use Rattle.cuts.specs.inner.Steps.{CutPlace}
-use Rattle.opening.specs.inner.Opening.{Cleared}
 use Rattle.cuts.proofs.Places.{cut_place, cut_place_lem, cut_set}
 use Rattle.panel.proofs.Lengths.{fits_small, fits_deep, fits_right, fits_room}
 
@@ -58,6 +59,20 @@ module _ (D : ℕ) (f : ℕ → ℕ) (l : 1 ≤ D) (h : D ≤ 17) (one : f (2 ^ 
 
 -- ---- the bytes
 
+-- t is as long as s, and every byte of it is zero
+pub record Cleared (s t : List ℕ) : Type 0 where
+  pub long : length t ≡ length s
+  pub zero : (i : ℕ) → get_or t i 0 ≡ 0
+
+-- what `fill` says of zeros. Past the end every byte reads as zero
+pub filled : {s t : List ℕ} → (((y : ℕ) → y ≡ 0 → y ≡ 0) → t ≡ replicate (length s) 0) → Cleared s t
+filled {s} {t} h =
+    let e = h (λ y p. p) in
+    record {
+      long = ap length e ∙ length-replicate (length s) 0;
+      zero = λ k. ap (λ (x : List ℕ). get_or x k 0) e ∙ ⊎_elim (λ q. get_or-eq_default (replicate (length s) 0) 0 (omega (arith, q, length-replicate {A = ℕ} (length s) 0))) (λ q. get_or-replicate (length s) k 0 0 q) (le_or_lt (length s) k);
+    }
+
 small : (D : ℕ) → D < 2 ^ (D + 1)
 small zero = omega arith
 small (suc D) = omega (arith, small D, pow_next (suc D), pow_next D)
@@ -66,11 +81,11 @@ small (suc D) = omega (arith, small D, pow_next (suc D), pow_next D)
 pub depth_fits : (D : ℕ) → D < 2 ^ wide D 0
 depth_fits D = subst (λ w. D < 2 ^ w) (let e : D + 1 ≡ wide D 0 = omega (arith, depth_zero) in e) (small D)
 
-module _ {D : ℕ} {s z : List ℕ} (F : Fits s D) (C : Cleared s z) where
-  pub half : 2 ^ D ≡ 2 * 2 ^ (D - 1)
-  half = ap (λ x. 2 ^ x) (let g : D ≡ D - 1 + 1 = omega (arith, F.low) in g) ∙ pow_next (D - 1)
+pub half : {D : ℕ} {s : List ℕ} → Fits s D → 2 ^ D ≡ 2 * 2 ^ (D - 1)
+half {D} F = ap (λ x. 2 ^ x) (let g : D ≡ D - 1 + 1 = omega (arith, F.low) in g) ∙ pow_next (D - 1)
 
-  pub room : Room D z
+module _ {D : ℕ} {s z : List ℕ} (F : Fits s D) (C : Cleared s z) where
+  room : Room D z
   room = room_same C.long (fits_room s D F)
 
   abbrev headed : List ℕ
@@ -105,7 +120,7 @@ module _ {D : ℕ} {s z : List ℕ} (F : Fits s D) (C : Cleared s z) where
   length_halved = length_put_leaf D started (2 ^ (D - 1)) 1 ∙ length_started ∙ C.long
 
   leaf_half : leaf_bit D halved (2 ^ (D - 1)) ≡ 1
-  leaf_half = leaf_put_same D started (2 ^ (D - 1)) 1 (omega arith) (room_same length_started room) (omega (arith, half, pow_pos (D - 1)))
+  leaf_half = leaf_put_same D started (2 ^ (D - 1)) 1 (omega arith) (room_same length_started room) (omega (arith, half F, pow_pos (D - 1)))
 
   leaf_start : leaf_bit D halved 0 ≡ 1
   leaf_start =
@@ -118,20 +133,20 @@ module _ {D : ℕ} {s z : List ℕ} (F : Fits s D) (C : Cleared s z) where
 
   spare : (p : ℕ) → p < 2 → bit halved p ≡ 0
   spare p h =
-      bit_put_leaf D started (2 ^ (D - 1)) 1 (omega arith) p (omega (arith, half, pow_pos (D - 1))) (inl (omega (arith, pow_pos D)))
+      bit_put_leaf D started (2 ^ (D - 1)) 1 (omega arith) p (omega (arith, half F, pow_pos (D - 1))) (inl (omega (arith, pow_pos D)))
       ∙ bit_put_leaf D headed 0 1 (omega arith) p (pow_pos D) (inl (omega (arith, pow_pos D)))
       ∙ bit_put_word D z 0 D p (inl (omega (arith, from_zero D))) ∙ bit_zero p
 
   depth_word : word D halved 0 ≡ D
   depth_word =
-      word_put_leaf D started (2 ^ (D - 1)) 1 (omega arith) 0 (omega (arith, half, pow_pos (D - 1))) (pow_pos D)
+      word_put_leaf D started (2 ^ (D - 1)) 1 (omega arith) 0 (omega (arith, half F, pow_pos (D - 1))) (pow_pos D)
       ∙ word_put_leaf D headed 0 1 (omega arith) 0 (pow_pos D) (pow_pos D)
       ∙ word_put_same D z 0 D (pow_pos (D + 1)) (depth_fits D) room.long
 
   pin_zero : (p : ℕ) → pin_bit D halved p ≡ 0
   unfolding pin_bit
   pin_zero p =
-      pin_put_leaf D started (2 ^ (D - 1)) 1 (omega arith) (omega (arith, half, pow_pos (D - 1))) p
+      pin_put_leaf D started (2 ^ (D - 1)) 1 (omega arith) (omega (arith, half F, pow_pos (D - 1))) p
       ∙ pin_put_leaf D headed 0 1 (omega arith) (pow_pos D) p
       ∙ bit_put_word D z 0 D (4 * 2 ^ D + p) (inr (omega (arith, head_end, from_zero D, small D, pow_next D, pow_pos D)))
       ∙ bit_zero (4 * 2 ^ D + p)

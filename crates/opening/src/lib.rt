@@ -5,9 +5,9 @@ ghost use Rattle.answers.specs.Refusals.{answer_number};
 ghost use Rattle.tables.specs.inner.Says.{Says};
 ghost use Rattle.panel.specs.Panels.{Fits};
 ghost use Rattle.panel.specs.Calls.{Fresh, Open};
-ghost use Rattle.opening.specs.inner.Opening.{Cleared};
 
-use answers::{Answer, Refusal};
+use answers::Refusal;
+use nodes::{GREATEST_DEPTH, LEAST_DEPTH};
 use panel::size;
 
 // Whether a panel of this depth has this length.
@@ -15,24 +15,7 @@ fn fits(panel: &[u8], depth: u32) -> bool
     ensures { Says (Fits panel.now depth) result }
 {
     let deep = depth as usize;
-    if deep < nodes::LEAST_DEPTH {
-        return false;
-    }
-    if nodes::GREATEST_DEPTH < deep {
-        return false;
-    }
-    panel.len() == size(deep)
-}
-
-// Writes zero to every byte.
-fn clear(bytes: &mut [u8])
-    ensures { Cleared bytes.old bytes.new }
-{
-    let mut i: usize = 0;
-    while i < bytes.len() {
-        bytes[i] = 0;
-        i += 1;
-    }
+    (LEAST_DEPTH..=GREATEST_DEPTH).contains(&deep) && panel.len() == size(deep)
 }
 
 // Writes the good panel whose only cut is node 1: its leaves are 2 and 3.
@@ -40,7 +23,7 @@ pub fn make_fresh(panel: &mut [u8], deep: usize)
     requires { Fits panel.old deep }
     ensures { Fresh deep panel.new }
 {
-    clear(panel);
+    panel.fill(0);
     words::put_word(panel, deep, 0, deep as u32);
     words::put_leaf_bit(panel, deep, 0, 1);
     words::put_leaf_bit(panel, deep, 1usize << (deep - 1), 1);
@@ -48,12 +31,12 @@ pub fn make_fresh(panel: &mut [u8], deep: usize)
 }
 
 // Opens the panel: writes every byte of it, or refuses with 1 and writes none.
-pub fn open(panel: &mut [u8], depth: u32) -> Answer
+pub fn open(panel: &mut [u8], depth: u32) -> Result<(), Refusal>
     ensures { Open panel.old depth (answer_number result) panel.new }
 {
-    if fits(panel, depth) {
-        make_fresh(panel, depth as usize);
-        return Answer::Done;
+    if !fits(panel, depth) {
+        return Err(Refusal::WrongLength);
     }
-    Answer::No(Refusal::WrongLength)
+    make_fresh(panel, depth as usize);
+    Ok(())
 }

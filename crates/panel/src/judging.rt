@@ -1,64 +1,46 @@
 // Judging a lent panel: its length, its words, its cuts, its pins.
-ghost use Rattle.answers.specs.Refusals.{answer_number};
+ghost use Rattle.answers.specs.Refusals.{answer_number, answer_value};
 ghost use Rattle.panel.specs.Calls.{Judged};
-ghost use Rattle.panel.specs.inner.Judging.{Deep, judgement_number, judgement_depth, GoodDepth};
+ghost use Rattle.panel.specs.inner.Judging.{Deep, GoodDepth};
 
 use crate::sizes::{GREATEST_SIZE, size};
-use answers::{Answer, Refusal};
+use answers::Refusal;
 use nodes::Node;
 
-// The depth of the panel by its length, or 0 where the length is wrong.
-pub fn depth_of(panel: &[u8]) -> usize
+// The depth of the panel by its length, or none where the length is wrong.
+pub fn depth_of(panel: &[u8]) -> Option<usize>
     ensures { Deep panel.now result }
 {
     let n = panel.len();
-    if n < size(nodes::LEAST_DEPTH) {
-        return 0;
-    }
-    if GREATEST_SIZE < n {
-        return 0;
+    if n < size(nodes::LEAST_DEPTH) || GREATEST_SIZE < n {
+        return None;
     }
     let deep = nodes::depth(Node(n as u32)) as usize + 1;
     if n != size(deep) {
-        return 0;
+        return None;
     }
-    deep
+    Some(deep)
 }
 
-// What every call on a panel begins with: the depth of a good panel, or why it is refused.
-#[derive(Clone, Copy)]
-pub enum Judgement {
-    Good(usize),
-    No(Refusal),
-}
-
-// The depth of the panel where it is good, or refusal 1 or 2.
-pub fn good_depth(panel: &[u8]) -> Judgement
-    ensures { GoodDepth panel.now (judgement_number result) (judgement_depth result) }
+// What every call on a panel begins with: the depth of a good panel, or refusal 1 or 2.
+pub fn good_depth(panel: &[u8]) -> Result<usize, Refusal>
+    ensures { GoodDepth panel.now (answer_number result) (answer_value result) }
 {
-    let deep = depth_of(panel);
-    if deep == 0 {
-        return Judgement::No(Refusal::WrongLength);
+    let deep = depth_of(panel).ok_or(Refusal::WrongLength)?;
+    if testing::all_right(panel, deep)
+        && words::leaf_bit(panel, deep, 0) == 1
+        && goodcuts::cuts_good(panel, deep)
+        && pins::pins_on_leaves(panel, deep)
+    {
+        return Ok(deep);
     }
-    if testing::all_right(panel, deep) {
-        if words::leaf_bit(panel, deep, 0) == 1 {
-            if goodcuts::cuts_good(panel, deep) {
-                if pins::pins_on_leaves(panel, deep) {
-                    return Judgement::Good(deep);
-                }
-            }
-        }
-    }
-    Judgement::No(Refusal::NotGood)
+    Err(Refusal::NotGood)
 }
 
 // Whether the panel is good: 0, or refusal 1 or 2.
-pub fn judge(panel: &[u8]) -> Answer
+pub fn judge(panel: &[u8]) -> Result<(), Refusal>
     ensures { Judged panel.now (answer_number result) }
 {
-    let j = good_depth(panel);
-    match j {
-        Judgement::Good(_) => Answer::Done,
-        Judgement::No(e) => Answer::No(e),
-    }
+    good_depth(panel)?;
+    Ok(())
 }

@@ -1,5 +1,5 @@
 -- Where a descent from node 1 stands, and where it stops.
-use Rattle.std.specs.Prelude.{◌≡◌, Bool, true, false, List, ℕ, ◌+◌, ◌-◌, ◌*◌, ◌/◌, ◌^◌, ◌≤◌, ◌<◌}
+use Rattle.std.specs.Prelude.{◌≡◌, List, ℕ, ◌+◌, ◌-◌, ◌*◌, ◌/◌, ◌^◌, ◌≤◌, ◌<◌}
 use Rattle.nodes.specs.Depth.{depth_of}
 use Rattle.words.specs.Words.{start, word}
 use Rattle.panel.specs.Panels.{deep_of, CutOf, LeafOf, number_in, leaf_count}
@@ -31,8 +31,3 @@ pub record Passed (s : List ℕ) (left n c : ℕ) : Type 0 where
 pub record NamedAt (s : List ℕ) (left p half k : ℕ) : Type 0 where
   pub place : p ≡ 2 * 2 ^ deep_of s + (2 * k + 1) * half
   pub below : half ≡ 2 ^ (left - 1)
-
--- r is a where c holds, else b
-pub record Picked (c : Bool) (a b r : ℕ) : Type 0 where
-  pub yes : c ≡ true → r ≡ a
-  pub no : c ≡ false → r ≡ b

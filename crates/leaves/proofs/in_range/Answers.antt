@@ -7,8 +7,8 @@ use Rattle.nodes.proofs.Depths.{pow_next}
 use borrow.Author.Tests.{ltb-true, ltb-false}
 use Rattle.leaves.proofs.in_range.Goals as goal
 
-pub returns : goal.returns
-returns c =
+pub returns-then-k-ge2 : goal.returns-then-k-ge2
+returns-then-k-ge2 c =
     let a = c.args in
     let e : 2 * 2 ^ a.deep % 2 ^ 32 ≡ 2 ^ (a.deep + 1) = omega (arith, pow_next a.deep, pow_mono {i = a.deep} {j = 17} (omega arith)) in
     record {
