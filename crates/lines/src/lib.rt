@@ -7,16 +7,16 @@ ghost use Rattle.lines.specs.inner.Adding.{longest, Added};
 // The longest line: two numbers of 20 digits, a space and a line feed.
 pub const LONGEST: usize = 42;
 
-// Puts part behind the first at bytes of out, and tells how many bytes that makes.
+// Puts part behind the first at bytes of out, and tells how many bytes that makes. Any lent bytes may be asked for, and any place in them: the
+// two are no struct.
 fn put(out: &mut [u8], at: usize, part: &[u8]) -> usize
     requires { at + length part.now ≤ length out.old }
     ensures value { result ≡ at + length part.now }
     ensures out_after { take result out.new ≡ take at out.old ++ part.now }
 {
-    for i in 0..part.len() {
-        out[at + i] = part[i];
-    }
-    at + part.len()
+    let end = at + part.len();
+    out[at..end].copy_from_slice(part);
+    end
 }
 
 // Puts the line of two numbers behind the first at bytes of out, and tells how many bytes that makes.

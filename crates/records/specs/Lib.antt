@@ -1,2 +1,3 @@
-pub mod Records
 pub mod InTurn
+pub mod Records
+pub mod inner

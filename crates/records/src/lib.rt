@@ -4,76 +4,86 @@
 ghost use Rattle.std.specs.Prelude.{◌≡◌, ◌*◌, ◌^◌, ◌≤◌, ◌<◌, min, length};
 ghost use Rattle.tables.specs.inner.Says.{Says};
 ghost use Rattle.records.specs.Records.{number, Fine, record_at, most_records, records_in, count_after};
+ghost use Rattle.records.specs.inner.Kinds.{KindOf, Asked};
 
 // The most records that a run works through, over all parts of its input.
 pub const MOST_RECORDS: usize = 4096;
 
-// The kinds of records.
-pub const OPEN: u8 = 0;
+// The kinds of records, in the order of their numbers.
+#[derive(Clone, Copy, PartialEq, Eq)]
+pub enum Kind {
+    Open,
+    Split,
+    Merge,
+    Pin,
+    Unpin,
+}
 
-pub const SPLIT: u8 = 1;
+impl TryFrom<u8> for Kind {
+    type Error = ();
 
-pub const MERGE: u8 = 2;
+    ghost try_from_gives = { KindOf };
 
-pub const PIN: u8 = 3;
+    fn try_from(byte: u8) -> Result<Self, ()> {
+        match byte {
+            0 => Ok(Kind::Open),
+            1 => Ok(Kind::Split),
+            2 => Ok(Kind::Merge),
+            3 => Ok(Kind::Pin),
+            4 => Ok(Kind::Unpin),
+            _ => Err(()),
+        }
+    }
+}
 
-pub const UNPIN: u8 = 4;
+// What a record asks for: the call of this kind, with this depth or node.
+#[derive(Clone, Copy)]
+pub struct Request {
+    pub kind: Kind,
+    pub number: u32,
+}
 
-// Whether the record is whole, of a kind from `first` to `last`, and its spare bytes are zero.
+// Whether the record is whole, of a kind from `first` to `last`, and its spare bytes are zero. The two are numbers, so that any may be asked for.
 pub fn fine(request: &[u8], first: u8, last: u8) -> bool
     ensures { Says (Fine first last request.now) result }
 {
-    if request.len() != 8 {
-        return false;
+    match *request {
+        [kind, 0, 0, 0, _, _, _, _] => first <= kind && kind <= last,
+        _ => false,
     }
-    if request[0] < first {
-        return false;
-    }
-    if last < request[0] {
-        return false;
-    }
-    if request[1] != 0 {
-        return false;
-    }
-    if request[2] != 0 {
-        return false;
-    }
-    if request[3] != 0 {
-        return false;
-    }
-    true
 }
 
 // The depth or node of a whole record: four bytes, lowest first.
+#[tactic(auto, unfolding(bits::specs::Little::little))]
 pub fn number_of(request: &[u8]) -> u32
     requires { length request.now ≡ 8 }
     ensures { result ≡ number request.now }
 {
-    bits::get_four(request, 4)
+    u32::from_le_bytes([request[4], request[5], request[6], request[7]])
 }
 
-// The lesser of the two.
-pub fn least(a: usize, b: usize) -> usize
-    ensures { result ≡ min a b }
+// What a record that is fine asks for.
+pub fn read(request: &[u8], first: u8, last: u8) -> Option<Request>
+    requires { last ≤ 4 }
+    ensures { Asked first last request.now result }
 {
-    if a < b {
-        return a;
+    if !fine(request, first, last) {
+        return None;
     }
-    b
+    let kind = Kind::try_from(request[0]).unwrap();
+    let number = number_of(request);
+    Some(Request { kind, number })
 }
 
 // How many records a part holds: a tail is one more where the input ends with the part.
 fn records_in(part: &[u8], ends: bool) -> usize
     ensures { (result ≡ records_in ends part.now) × (result < 2 ^ 62) }
 {
-    let whole = part.len() / 8;
-    if part.len() % 8 == 0 {
-        return whole;
-    }
     if ends {
-        return whole + 1;
+        part.len().div_ceil(8)
+    } else {
+        part.len() / 8
     }
-    whole
 }
 
 // How many records are answered after a part, n of them before it.
@@ -81,7 +91,7 @@ pub fn count_after(n: usize, part: &[u8], ends: bool) -> usize
     requires { n ≤ most_records }
     ensures { result ≡ count_after n ends part.now }
 {
-    least(MOST_RECORDS, n + records_in(part, ends))
+    MOST_RECORDS.min(n + records_in(part, ends))
 }
 
 // Record i: a tail is shorter than eight bytes.
@@ -90,6 +100,6 @@ pub fn record_at(records: &[u8], i: usize) -> &[u8]
     ensures { result.now ≡ record_at records.now i }
 {
     let start = 8 * i;
-    let end = least(start + 8, records.len());
+    let end = records.len().min(start + 8);
     &records[start..end]
 }

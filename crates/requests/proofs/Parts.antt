@@ -9,10 +9,7 @@ use lib.Seq.{slice, length-slice, length-take-le, take-take, drop-drop}
 use Rattle.records.specs.Records.{record_at, records_in, most_records}
 use Rattle.records.specs.InTurn.InTurn.{none}
 use Rattle.records.proofs.InTurn.{record_behind, turns_longer, turns_then}
-use Rattle.steps.specs.Holding.{Holds}
-use Rattle.steps.proofs.Keeping.{holds_none}
 use Rattle.turns.specs.Runs.{Runs}
-use Rattle.turns.proofs.Running.{runs_holds}
 use Rattle.requests.specs.Requests.{Part, Run, Parts, Ended}
 use Rattle.requests.specs.Requests.Parts.{none as no-parts, more as one_more}
 use Rattle.requests.proofs.Once.{run_one}
@@ -92,16 +89,6 @@ pub reading_none : (b out : List ℕ) → Reading b out b out 0 0
 reading_none b out = record { read = []; parts = no-parts }
 
 module _ {b out t given : List ℕ} {n C : ℕ} (h : Reading b out t given n C) where
-  pub reading_holds : Holds C t
-  reading_holds = runs_holds (holds_none b) (parts_sofar h.parts).runs
-
-  pub reading_room : n ≤ min most_records (length given)
-  reading_room = let s = parts_sofar h.parts in omega (arith, s.count, s.long)
-
-  -- a part with a record in it brings the run on, up to the limit
-  pub reading_grows : {p u after : List ℕ} {m D : ℕ} → Part p false n C t given m D u after → n < most_records → most_records ≤ length out → 8 ≤ length p → n < m
-  reading_grows q l r w = omega (arith, q.all, (parts_sofar h.parts).long)
-
   pub reading_more : {p u after : List ℕ} {m D : ℕ} → length p % 8 ≡ 0 → Part p false n C t given m D u after → Reading b out u after m D
   reading_more {p} w q = record { read = h.read ++ p; parts = one_more h.parts w q }
 

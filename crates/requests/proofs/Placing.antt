@@ -2,22 +2,17 @@
 use mathlib.Core.Path.{◌≡◌, sym, ap, ◌∙◌, subst⁻¹}
 use mathlib.Core.Bool.{Bool}
 use mathlib.Core.List.{List, ◌++◌, append_assoc}
-use Prim.Native.Nat.{ℕ, ◌+◌, ◌-◌, ◌*◌, ◌≤◌, min}
+use Prim.Native.Nat.{ℕ, ◌+◌, ◌-◌, ◌≤◌, min}
 use native.Mathlib.Omega.{arith}
 use lib.ListN.{length, take, drop, length-append, length-drop}
 use lib.Seq.{slice, length-take-le, take_at, drop_at, drop-drop}
 use Rattle.records.specs.Records.{count_after, most_records}
-use Rattle.records.proofs.Tails.{in_room}
 use Rattle.turns.specs.Runs.{Runs}
 use Rattle.requests.specs.Requests.{Part}
 
 module _ (p : List ℕ) (ends : Bool) (before : ℕ) (out : List ℕ) (count : ℕ) (h : before ≤ min most_records (length out)) (a : count ≡ min (count_after before ends p) (length out)) where
   lent_long : length (take (count - before) (drop before out)) ≡ count - before
   lent_long = length-take-le (count - before) (drop before out) (omega (arith, length-drop before out, a))
-
-  -- each answer of the part that is lent has a record, or the tail
-  pub lent_records : 8 * length (take (count - before) (drop before out)) ≤ length p + 7
-  lent_records = in_room ends p (length (take (count - before) (drop before out))) (omega (arith, lent_long, a))
 
   before_long : length (take before out) ≡ before
   before_long = length-take-le before out (omega (arith, h))

@@ -1,24 +1,17 @@
--- How each `return` of `round` makes its outcome: the rows past a good panel, and the answers in front of the bytes that stay.
+-- How `round` makes its outcome: the rows past a good panel, and the answers in front of the bytes that stay.
 use mathlib.Core.Path.{◌≡◌, refl, ◌∙◌, subst⁻¹}
-use mathlib.Core.Logic.{◌≢◌, inl, inr}
+use mathlib.Core.Logic.{inr}
 use mathlib.Core.List.{List, ◌++◌}
-use Prim.Native.Nat.{ℕ, ◌/◌, ◌%◌, ◌≤◌, ◌<◌}
-use native.Mathlib.Omega.{arith}
+use Prim.Native.Nat.{ℕ, ◌/◌, ◌%◌, ◌≤◌}
 use lib.ListN.{length, take, drop}
 use lib.Seq.{length_front, length-take-le, take_at, drop_at}
-use Rattle.tables.proofs.Tables.{is_done, is_refused}
+use Rattle.tables.proofs.Tables.{is_done}
 use Rattle.panel.specs.Panels.{deep_of, Good}
 use Rattle.turns.specs.Runs.{Runs}
 use Rattle.rounds.specs.Rounds.{InOrder, Round}
 use Rattle.rounds.proofs.SingleCalls.{runs_in_order}
 
 module _ {s rs out : List ℕ} (g : Good s) where
-  pub no_room : length out < length rs / 8 → Round s rs out 16 (record { panel = s; answers = out })
-  no_room h = is_refused (omega arith) (inr (g.fits, inr (g, inl (λ a. omega (arith, a, h), refl)))) refl
-
-  pub bytes_left : length rs / 8 ≤ length out → length rs % 8 ≢ 0 → Round s rs out 17 (record { panel = s; answers = out })
-  bytes_left a h = is_refused (omega arith) (inr (g.fits, inr (g, inr (a, inl (h, refl))))) refl
-
   -- the answers ys, as many as there are records, are put into the first bytes
   pub round_done : {D E : ℕ} {ys t : List ℕ} → D ≡ deep_of s → length rs / 8 ≤ length out → length rs % 8 ≡ 0 → length ys ≡ length (take (length rs / 8) out)
       → Runs 1 2 rs D s ys E t → Round s rs out 0 (record { panel = t; answers = ys ++ drop (length rs / 8) out })

@@ -1,5 +1,5 @@
 -- The step of a record, on a buffer that is one good panel and no more, is its single call on that panel: so records in turn there are the single calls in order.
-use mathlib.Core.Path.{◌≡◌, refl, sym, ap, ◌∙◌, subst⁻¹, subst₂}
+use mathlib.Core.Path.{◌≡◌, refl, sym, ap, ◌∙◌, subst₂}
 use mathlib.Core.Logic.{◌⊎◌, inl, inr, ⊎_elim}
 use mathlib.Core.List.{List, ◌++◌, append-nil}
 use Prim.Native.Nat.{ℕ, ◌+◌, ◌*◌, ◌≤◌}
@@ -15,7 +15,6 @@ use Rattle.records.proofs.InTurn.{record_behind, turns_keep, turns_longer, turns
 use Rattle.steps.specs.Steps.{panel_in, changed, Called, Step}
 use Rattle.steps.specs.Steps.Called.{opened, refused, in_use, split, merge, pin, unpin}
 use Rattle.steps.specs.Steps.Step.{bad, call}
-use Rattle.steps.specs.Holding.{Holds}
 use Rattle.steps.proofs.Keeping.{stays}
 use Rattle.turns.specs.Runs.{StepBytes}
 use Rattle.rounds.specs.Rounds.{Single, InOrder}
@@ -60,9 +59,6 @@ module _ (D : ℕ) (s : List ℕ) (l : length s ≡ size_of D) where
   step_single : {r u : List ℕ} {n E : ℕ} → Step 1 2 r D s n E u → (E ≡ D) × Single r s n u
   step_single (bad f) = (refl, bad-single f)
   step_single (call f p) = let c = called_single p f.least f.most in (c.0, ⊎_elim (λ o. splits f o.0 o.1) (λ o. merges f o.0 o.1) c.1)
-
-pub good_holds : {D : ℕ} {s : List ℕ} → Good s → D ≡ deep_of s → Holds D s
-good_holds g d = let e = panel_whole _ _ (good_long g d) in record { good = λ _. subst⁻¹ Good e g; deep = λ _. d ∙ ap deep_of (sym e) }
 
 -- the panel is all of the buffer after each record too
 pub runs_in_order : {rs given : List ℕ} {x y : ℕ × List ℕ} → Good x.1 → x.0 ≡ deep_of x.1 → InTurn (ℕ × List ℕ) (StepBytes 1 2) rs x given y

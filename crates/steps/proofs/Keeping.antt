@@ -14,7 +14,8 @@ use Rattle.records.specs.Records.{kind, number, Fine}
 use Rattle.steps.specs.Steps.{panel_in, changed, Called, Step}
 use Rattle.steps.specs.Steps.Called.{opened, refused, in_use, split, merge, pin, unpin}
 use Rattle.steps.specs.Steps.Step.{bad, call}
-use Rattle.steps.specs.Holding.{Holds}
+use Rattle.std.proofs.Common.{Option, None, Some}
+use Rattle.steps.specs.Holding.{Holds, depth_or_0, Keeps}
 use Rattle.steps.proofs.Exactness.{open_answers}
 use Rattle.steps.proofs.Parts.{no_room, none_right, panel_changed, same_changed, held_length}
 
@@ -75,6 +76,18 @@ called_holds h (unpin {t = t} p) = held_changed t h (λ g. put_stays (omega arit
 pub step_holds : {first last : ℕ} {r b u : List ℕ} {D n E : ℕ} → Holds D b → Step first last r D b n E u → Holds E u
 step_holds h (bad f) = h
 step_holds h (call f p) = called_holds h p
+
+-- ---- the same of the depth that the code holds
+
+pub keeps_holds : (o : Option ℕ) (b : List ℕ) → Keeps o b → Holds (depth_or_0 o) b
+keeps_holds None b h = holds_none b
+keeps_holds (Some D) b h = record { good = λ _. h.0; deep = λ _. h.1 }
+
+pub called_keeps : {k D c n : ℕ} {b u : List ℕ} → Called k D b c n D u → Keeps (Some D) b → Keeps (Some D) u
+called_keeps {D = D} {b = b} p h =
+    let z : D ≢ 0 = λ e. omega (arith, h.1) in
+    let g = called_holds (keeps_holds (Some D) b h) p in
+    (g.good z, g.deep z)
 
 -- ---- where an open is refused
 

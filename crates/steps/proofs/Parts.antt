@@ -5,7 +5,7 @@ use mathlib.Core.List.{List, [], ◌++◌}
 use Prim.Native.Nat.{ℕ, zero, suc, ◌≤◌, ◌<◌}
 use native.Mathlib.Decide.{dec_lt}
 use native.Mathlib.Omega.{arith}
-use lib.ListN.{length, get_or, take, drop, length-take, take-append-drop, get_or-append, get_or-eq_default}
+use lib.ListN.{length, get_or, drop, length-take, take-append-drop, get_or-append, get_or-eq_default}
 use lib.Seq.{length-take-le, take_at}
 use Rattle.bits.specs.Bits.{Bytes}
 use Rattle.nodes.specs.Limits.{least_depth, greatest_depth}
@@ -69,10 +69,6 @@ leaves_open (suc d) b z = refl
 -- where there are leaves, a panel is open
 pub is_open : (D i : ℕ) (b : List ℕ) → i < leaves_in D b → D ≢ 0
 is_open D i b h e = omega (arith, leaves_none D b e, h)
-
--- the code's count: that of the part lent
-pub leaves_count : {D n : ℕ} (b : List ℕ) → D ≢ 0 → n ≡ size_of D → leaves_in D b ≡ leaf_count (take n b)
-leaves_count {D} b z e = leaves_open D b z ∙ ap (λ x. leaf_count (take x b)) (sym e)
 
 -- the panel put into the buffer is the open one
 pub leaves_changed : (D : ℕ) (b t : List ℕ) → D ≢ 0 → length t ≡ size_of D → leaves_in D (changed D b t) ≡ leaf_count t

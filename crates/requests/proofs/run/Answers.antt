@@ -5,6 +5,6 @@ use lib.ListN.{length}
 use Rattle.requests.proofs.Placing.{part_placed}
 use Rattle.requests.proofs.run.Goals as goal
 
-pub returns : goal.returns
-returns c =
-    part_placed _ _ _ _ _ c.requires.1 (c.least-count.ensures ∙ ap (λ n. min n (length c.args.answers.now)) c.count_after.ensures) c.in_turn-deep.auto.answers c.in_turn-deep.ensures
+pub returns-clause-part : goal.returns-clause-part
+returns-clause-part c =
+    part_placed _ _ _ _ _ c.requires.1 (c.min-count.ensures ∙ ap (λ n. min n (length c.args.answers.now)) c.count_after.ensures) c.in_turn.auto.answers c.in_turn.ensures.runs

@@ -1,12 +1,8 @@
-use mathlib.Core.Path.{◌≡◌}
-use Prim.Native.Nat.{◌-◌, ◌≤◌}
-use lib.ListN.{length}
-use Rattle.printing.specs.Printing.{line_count}
+use Rattle.std.proofs.Common.{◌-◌, ◌≤◌}
 use Rattle.scanner.proofs.print.Given as goal
 
-abbrev pub invariant-loop-next : goal.invariant-loop-next
-invariant-loop-next l =
-    (l.n ≡ line_count l.answers l.deep l.buffer) × (length l.block ≡ 8192) × (l.next ≤ l.n) × (l.done ≡ l.next)
+abbrev pub invariant-loop-done : goal.invariant-loop-done
+invariant-loop-done l = l.done ≤ l.n
 
-abbrev pub decreases-loop-next : goal.decreases-loop-next
-decreases-loop-next l = l.n - l.next
+abbrev pub decreases-loop-done : goal.decreases-loop-done
+decreases-loop-done l = l.n - l.done

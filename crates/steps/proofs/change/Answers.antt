@@ -1,17 +1,15 @@
 -- The kind picks the call, and each call has its own contract.
-use native.Mathlib.Omega.{arith}
-use Rattle.steps.proofs.Answering.{kind_split, kind_merge, kind_pin, kind_unpin}
+use Rattle.steps.specs.inner.Changing.Change.{split, merge, pin, unpin}
 use Rattle.steps.proofs.change.Goals as goal
 
-pub returns-then-kind-eq-SPLIT : goal.returns-then-kind-eq-SPLIT
-returns-then-kind-eq-SPLIT c = kind_split c.if-kind-eq-SPLIT.true c.split.ensures.split
+pub returns-in-Split : goal.returns-in-Split
+returns-in-Split c = rw c.in-Split.is (split c.split.ensures.split)
 
-pub returns-then-kind-eq-MERGE : goal.returns-then-kind-eq-MERGE
-returns-then-kind-eq-MERGE c = kind_merge c.if-kind-eq-MERGE.true c.merge.ensures.merge
+pub returns-in-Merge : goal.returns-in-Merge
+returns-in-Merge c = rw c.in-Merge.is (merge c.merge.ensures.merge)
 
-pub returns-then-kind-eq-PIN : goal.returns-then-kind-eq-PIN
-returns-then-kind-eq-PIN c = kind_pin c.if-kind-eq-PIN.true c.put_pin.ensures.pin_put
+pub returns-in-Pin : goal.returns-in-Pin
+returns-in-Pin c = rw c.in-Pin.is (pin c.put_pin.ensures.pin_put)
 
-pub returns : goal.returns
-returns c =
-    kind_unpin (omega (arith, c.if-kind-eq-PIN.false, c.if-kind-eq-MERGE.false, c.if-kind-eq-SPLIT.false, c.requires)) c.put_pin-2.ensures.pin_put
+pub returns-in-Unpin : goal.returns-in-Unpin
+returns-in-Unpin c = rw c.in-Unpin.is (unpin c.put_pin-in-Unpin.ensures.pin_put)
