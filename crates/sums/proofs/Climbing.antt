@@ -154,12 +154,12 @@ pub record OnPath (D k top w : ℕ) : Type 0 where
 pub path_first : {D k top w : ℕ} → At D k → top ≡ 2 * 2 ^ D → w ≡ 1 → OnPath D k top w
 path_first {D} a e f = record { depth = D; at = a; wide = omega arith; first = e }
 
--- one level up, to words of w bits
-pub path_up : {D k top w : ℕ} → OnPath D k top (w - 1) → 2 ≤ w → w ≤ D + 1 → OnPath D (k / 2) (top / 2) w
-path_up {D} {k} {top} {w} o low high = go o.depth o.at o.wide o.first
+-- one level up
+pub path_up : {D k top w : ℕ} → OnPath D k top w → 1 < k → OnPath D (k / 2) (top / 2) (w + 1)
+path_up {D} {k} {top} {w} o h = go o.depth o.at o.wide o.first
   where
-    go : (d : ℕ) → At d k → d + (w - 1) ≡ D + 1 → top ≡ 2 * 2 ^ d → OnPath D (k / 2) (top / 2) w
-    go zero a e f = absurd (omega arith)
+    go : (d : ℕ) → At d k → d + w ≡ D + 1 → top ≡ 2 * 2 ^ d → OnPath D (k / 2) (top / 2) (w + 1)
+    go zero a e f = absurd (omega (arith, a.high))
     go (suc d) a e f = record { depth = d; at = at_parent a; wide = omega arith; first = omega (arith, pow_next d) }
 
 -- the word is a sum, inside the bytes, and what the code reads and writes there is that word
