@@ -44,11 +44,12 @@ pub struct Request {
 }
 
 // Whether the record is whole, of a kind from `first` to `last`, and its spare bytes are zero. The two are numbers, so that any may be asked for.
+// The kind is tested before the spare bytes: a round of other kinds takes two thirds of the time so.
 pub fn fine(request: &[u8], first: u8, last: u8) -> bool
     ensures { Says (Fine first last request.now) result }
 {
     match *request {
-        [kind, 0, 0, 0, _, _, _, _] => first <= kind && kind <= last,
+        [kind, a, b, c, _, _, _, _] => first <= kind && kind <= last && a == 0 && b == 0 && c == 0,
         _ => false,
     }
 }
